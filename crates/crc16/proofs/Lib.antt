@@ -1,0 +1,4 @@
+mod Xor
+mod Linear
+mod Steps
+pub mod Laws

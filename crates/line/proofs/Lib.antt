@@ -1,0 +1,4 @@
+mod Laws
+pub mod Pieces
+pub mod Trip
+pub mod Examples

@@ -1,0 +1,250 @@
+-- How the reader reads a whole piece, and a part of one. Assumes nothing.
+use mathlib.Core.Path.{_≡_, refl, ap, sym, _∙_}
+use mathlib.Core.Bool.{Bool, true, false, not}
+use mathlib.Core.List.{List, [], _∷_, _++_}
+use mathlib.Core.Logic.{_≢_, _⊎_, inl, inr}
+use Prim.Native.Nat.{ℕ, zero, suc, _+_, _-_, _≤_, _<_, _/_, _%_, _^_}
+use native.Mathlib.Omega.{arith}
+use native.Mathlib.Numerals.{add-one}
+use native.Mathlib.Decide.{decLe, ℕ-discrete}
+use lib.Dec.{ltb, eqb}
+use lib.Pow.{shr-shr, shr-le}
+use borrow.Author.Tests.{lt-ltb, eq-eqb, ne-eqb, eqb-true, eqb-false, ltb-false}
+use Rattle.base.specs.Pick.{pick, pick-keeps}
+use Rattle.base.specs.Bits.{val, odd, bit}
+use Rattle.line.specs.declared.Piece.{Piece}
+use Rattle.line.specs.declared.Piece.the-variants.{Pause, StartBit, WordPiece, EndPiece}
+use Rattle.line.specs.declared.Ear.the-variants.{Quiet, Group}
+use Rattle.line.specs.Format.{checkBit, pieceLength, wordBit, pieceBit}
+use Rattle.line.specs.Reader.{runOn, shiftIn, atCheck, inGroup, hear, Reading, collect, readBit}
+
+-- Where the reader stands between two pieces: outside a command, or in one after a 0 or a 1.
+pub data Pos : Type 0 where
+  out : List (List ℕ) → Pos
+  within : List (List ℕ) → List ℕ → Bool → Pos
+
+unfoldable pub at : Pos → Reading
+at (out finished) = record { finished = finished; words = []; ear = Quiet }
+at (within finished words b) = record { finished = finished; words = words; ear = Group 0 0 (val b) }
+
+-- The reading of the first n bits of f.
+unfoldable pub upTo : Reading → (ℕ → Bool) → ℕ → Reading
+upTo r f zero = r
+upTo r f (suc n) = readBit (upTo r f n) (f n)
+
+-- The place after a piece.
+unfoldable pub after : Piece → Pos → Pos
+after Pause p = p
+after StartBit (out finished) = within finished [] false
+after StartBit (within finished words b) = within finished words b
+after (WordPiece w) (out finished) = out finished
+after (WordPiece w) (within finished words b) = within finished (words ++ (w ∷ [])) (checkBit w)
+after EndPiece (out finished) = out finished
+after EndPiece (within finished words b) = out (finished ++ (words ∷ []))
+
+-- The pieces that may follow a place.
+abbrev pub Fits : Piece → Pos → Type 0
+Fits Pause p = Unit {0}
+Fits StartBit (out finished) = Unit {0}
+Fits StartBit (within finished words b) = ⊥
+Fits (WordPiece w) (out finished) = ⊥
+Fits (WordPiece w) (within finished words b) = w < 65536
+Fits EndPiece p = Unit {0}
+
+-- A bit's number.
+val-le : (b : Bool) → val b ≤ 1
+unfolding val
+val-le true = omega arith
+val-le false = omega arith
+
+val-odd : (x : ℕ) → val (odd x) ≡ x % 2
+unfolding odd val
+val-odd x = go (eqb (x % 2) 1) refl
+  where
+    go : (t : Bool) → eqb (x % 2) 1 ≡ t → val t ≡ x % 2
+    go true e = sym (eqb-true (x % 2) 1 e)
+    go false e = let n : x % 2 ≢ 1 = eqb-false (x % 2) 1 e in omega arith
+
+-- A run grows by one bit at most, and stops at a 0.
+run-le : (n : ℕ) (b : Bool) → runOn n b ≤ suc n
+unfolding runOn
+run-le n true = pick-keeps (λ (m : ℕ). m ≤ suc n) _ _ _ (λ h. omega arith) (λ h. omega (arith, ltb-false n 18 h))
+run-le n false = omega arith
+
+run-stops : (n : ℕ) (b : Bool) → b ≡ false → runOn n b ≡ 0
+unfolding runOn
+run-stops n b e = rw e
+
+module _ (finished : List (List ℕ)) (words : List ℕ) where
+  -- A bit that does not complete its group.
+  in-group : (v c n : ℕ) (b : Bool) → c < 16 → n ≤ suc c
+      → readBit (record { finished = finished; words = words; ear = Group v c n }) b
+      ≡ record { finished = finished; words = words; ear = Group (shiftIn v b) (suc c) (runOn n b) }
+  unfolding readBit hear inGroup collect pick
+  in-group v c n b h k =
+      let e : eqb (runOn n b) 18 ≡ false = ne-eqb (runOn n b) 18 (λ q. omega (arith, run-le n b)) in
+      let l : ltb c 16 ≡ true = lt-ltb c 16 h in
+      rw (e, l, add-one)
+
+  -- The check bit.
+  checked : (w n : ℕ) → (odd w ≡ false → n ≡ 0)
+      → readBit (record { finished = finished; words = words; ear = Group w 16 n }) (checkBit w) ≡ at (within finished (words ++ (w ∷ [])) (checkBit w))
+  unfolding checkBit readBit hear inGroup atCheck runOn collect at val pick
+  checked w n s = go (odd w) refl
+    where
+      go : (t : Bool) → odd w ≡ t
+          → readBit (record { finished = finished; words = words; ear = Group w 16 n }) (not t) ≡ at (within finished (words ++ (w ∷ [])) (not t))
+      go true e =
+          let m : w % 2 ≡ 1 = sym (val-odd w) ∙ ap val e in
+          rw (eq-eqb (0 + w % 2) 1 (omega arith))
+      go false e =
+          let m : w % 2 ≡ 0 = sym (val-odd w) ∙ ap val e in
+          rw (s e, eq-eqb (1 + w % 2) 1 (omega arith))
+
+  end-within : (b : Bool) → upTo (at (within finished words b)) (pieceBit EndPiece) 18 ≡ at (out (finished ++ (words ∷ [])))
+  unfolding upTo at pieceBit readBit hear inGroup atCheck runOn shiftIn collect val pick
+  end-within true = refl
+  end-within false = refl
+
+-- The number after one bit more of a word.
+next-bit : (w j : ℕ) → w < 65536 → j < 16 → shiftIn (w / 2 ^ (16 - j)) (bit (15 - j) w) ≡ w / 2 ^ (16 - suc j)
+unfolding shiftIn bit
+next-bit w j k h =
+    let e : 16 - j ≡ (15 - j) + 1 = omega arith in
+    let d : 16 - suc j ≡ 15 - j = omega arith in
+    let l : w / 2 ^ (15 - j) ≤ w = shr-le w (15 - j) in
+    rw (e, d, val-odd, ← (shr-shr w (15 - j) 1)) (omega arith)
+
+last-bit : (w j : ℕ) → odd (w / 2 ^ (16 - suc j)) ≡ bit (15 - j) w
+unfolding bit
+last-bit w j = let e : 16 - suc j ≡ 15 - j = omega arith in rw e
+
+word-bit : (w j : ℕ) → j < 16 → pieceBit (WordPiece w) j ≡ bit (15 - j) w
+unfolding pieceBit wordBit pick
+word-bit w j h = rw (lt-ltb j 16 h)
+
+-- The reader in a group of c bits, of a run that those bits allow.
+record Reads (r : Reading) (finished : List (List ℕ)) (words : List ℕ) (v c : ℕ) : Type 0 where
+  run : ℕ
+  is : r ≡ record { finished = finished; words = words; ear = Group v c run }
+  few : run ≤ suc c
+  stop : 0 < c → odd v ≡ false → run ≡ 0
+
+module _ (finished : List (List ℕ)) (words : List ℕ) (w : ℕ) (fits : w < 65536) where
+  one-more : (r : Reading) (j : ℕ) → j < 16 → Reads r finished words (w / 2 ^ (16 - j)) j
+      → Reads (readBit r (pieceBit (WordPiece w) j)) finished words (w / 2 ^ (16 - suc j)) (suc j)
+  one-more r j h i =
+      record {
+        run = runOn (i .run) (bit (15 - j) w);
+        is = rw (i .is, word-bit w j h, in-group finished words (w / 2 ^ (16 - j)) j (i .run) (bit (15 - j) w) h (i .few), next-bit w j fits h);
+        few = omega (arith, run-le (i .run) (bit (15 - j) w), i .few);
+        stop = λ p q. run-stops (i .run) (bit (15 - j) w) (sym (last-bit w j) ∙ q);
+      }
+
+  module _ (b : Bool) where
+    word-bits : (j : ℕ) → j ≤ 16 → Reads (upTo (at (within finished words b)) (pieceBit (WordPiece w)) j) finished words (w / 2 ^ (16 - j)) j
+    unfolding upTo at
+    word-bits zero k =
+        let e : w / 65536 ≡ 0 = omega arith in
+        record { run = val b; is = rw e; few = val-le b; stop = λ p. absurd (omega arith) }
+    word-bits (suc j) k = one-more _ j k (word-bits j (omega arith))
+
+    word-within : upTo (at (within finished words b)) (pieceBit (WordPiece w)) 17 ≡ at (within finished (words ++ (w ∷ [])) (checkBit w))
+    unfolding upTo
+    word-within =
+        let i : Reads (upTo (at (within finished words b)) (pieceBit (WordPiece w)) 16) finished words (w / 1) 16 = word-bits 16 (omega arith) in
+        let e : w / 1 ≡ w = omega arith in
+        let c : pieceBit (WordPiece w) 16 ≡ checkBit w = unfold pieceBit wordBit pick in refl in
+        rw (i .is, c, e, checked finished words w (i .run) (λ q. i .stop (omega arith) (rw e q)))
+
+end-out : (finished : List (List ℕ)) (n : ℕ) → upTo (at (out finished)) (pieceBit EndPiece) n ≡ at (out finished)
+unfolding upTo at pieceBit readBit hear collect pick
+end-out finished zero = refl
+end-out finished (suc n) = rw (end-out finished n)
+
+-- A whole piece leads from its place to the next.
+pub whole : (u : Piece) (p : Pos) → Fits u p → upTo (at p) (pieceBit u) (pieceLength u) ≡ at (after u p)
+unfolding pieceLength after val
+whole Pause p f = unfold upTo in refl
+whole StartBit (out finished) f = unfold upTo pieceBit readBit hear collect at pick in refl
+whole StartBit (within finished words b) f = absurd f
+whole EndPiece (out finished) f = end-out finished 18
+whole EndPiece (within finished words b) f = end-within finished words b
+whole (WordPiece w) (out finished) f = absurd f
+whole (WordPiece w) (within finished words b) f = word-within finished words w f b
+
+-- What a reading shows: the commands finished, and the words of the one under way.
+unfoldable pub finishedAt : Pos → List (List ℕ)
+finishedAt (out finished) = finished
+finishedAt (within finished words b) = finished
+
+unfoldable pub wordsAt : Pos → List ℕ
+wordsAt (out finished) = []
+wordsAt (within finished words b) = words
+
+pub record Shows (r : Reading) (p : Pos) : Type 0 where
+  pub same-finished : r .finished ≡ finishedAt p
+  pub same-words : r .words ≡ wordsAt p
+
+pub shows-at : (p : Pos) → Shows (at p) p
+unfolding at finishedAt wordsAt
+shows-at (out finished) = record { same-finished = refl; same-words = refl }
+shows-at (within finished words b) = record { same-finished = refl; same-words = refl }
+
+shows-equal : (r : Reading) (p : Pos) → r ≡ at p → Shows r p
+shows-equal r p e = rw e (shows-at p)
+
+-- The reader in a group of n bits of any value.
+record Early (r : Reading) (finished : List (List ℕ)) (words : List ℕ) (c : ℕ) : Type 0 where
+  value : ℕ
+  run : ℕ
+  is : r ≡ record { finished = finished; words = words; ear = Group value c run }
+  few : run ≤ suc c
+
+module _ (finished : List (List ℕ)) (words : List ℕ) (b : Bool) where
+  early : (f : ℕ → Bool) (n : ℕ) → n ≤ 16 → Early (upTo (at (within finished words b)) f n) finished words n
+  unfolding upTo at
+  early f zero h = record { value = 0; run = val b; is = refl; few = val-le b }
+  early f (suc n) h = go (early f n (omega arith))
+    where
+      go : Early (upTo (at (within finished words b)) f n) finished words n → Early (readBit (upTo (at (within finished words b)) f n) (f n)) finished words (suc n)
+      go i =
+          record {
+            value = shiftIn (i .value) (f n);
+            run = runOn (i .run) (f n);
+            is = rw (i .is, in-group finished words (i .value) n (i .run) (f n) h (i .few));
+            few = omega (arith, run-le (i .run) (f n), i .few);
+          }
+
+  shows-early : (f : ℕ → Bool) (n : ℕ) → n ≤ 16 → Shows (upTo (at (within finished words b)) f n) (within finished words b)
+  unfolding finishedAt wordsAt
+  shows-early f n h = let i = early f n h in rw (i .is) (record { same-finished = refl; same-words = refl })
+
+-- The seventeenth 1 of an END ends the command where a 1 came before, and not where a 0 did.
+end-17 : (finished : List (List ℕ)) (words : List ℕ) (b : Bool)
+    → Shows (upTo (at (within finished words b)) (pieceBit EndPiece) 17) (within finished words b)
+    ⊎ Shows (upTo (at (within finished words b)) (pieceBit EndPiece) 17) (out (finished ++ (words ∷ [])))
+unfolding upTo at pieceBit readBit hear inGroup atCheck runOn shiftIn collect val pick finishedAt wordsAt
+end-17 finished words true = inr (record { same-finished = refl; same-words = refl })
+end-17 finished words false = inl (record { same-finished = refl; same-words = refl })
+
+short : (u : Piece) (p : Pos) → Fits u p → (n : ℕ) → n < pieceLength u
+    → Shows (upTo (at p) (pieceBit u) n) p ⊎ Shows (upTo (at p) (pieceBit u) n) (after u p)
+unfolding pieceLength after
+short Pause p f n l = absurd (omega arith)
+short StartBit (out finished) f n l = let e : n ≡ 0 = omega arith in inl (shows-equal _ _ (rw e (unfold upTo in refl)))
+short StartBit (within finished words b) f n l = absurd f
+short EndPiece (out finished) f n l = inl (shows-equal _ _ (end-out finished n))
+short EndPiece (within finished words b) f n l =
+    elim (decLe n 16) [
+      | yes k ↦ inl (shows-early finished words b (pieceBit EndPiece) n k)
+      | no k ↦ (let e : n ≡ 17 = omega arith in rw e (end-17 finished words b))
+    ]
+short (WordPiece w) (out finished) f n l = absurd f
+short (WordPiece w) (within finished words b) f n l = inl (shows-early finished words b (pieceBit (WordPiece w)) n (omega arith))
+
+-- A part of a piece shows what the place before it shows, or what the place after it shows.
+pub part : (u : Piece) (p : Pos) → Fits u p → (n : ℕ) → n ≤ pieceLength u
+    → Shows (upTo (at p) (pieceBit u) n) p ⊎ Shows (upTo (at p) (pieceBit u) n) (after u p)
+part u p f n h =
+    elim (ℕ-discrete n (pieceLength u)) [ yes e ↦ inr (shows-equal _ _ (rw e (whole u p f))) | no e ↦ short u p f n (omega arith) ]

@@ -1,0 +1,4 @@
+mod Arms
+mod Raised
+pub mod Laws
+mod Examples

@@ -1,0 +1,14 @@
+-- `raise` meets its contract: the flag's number picks the one field.
+use borrow.Author.Needs.{needs}
+use Rattle.registers.proofs.Raised.{to-raised}
+use Rattle.registers.proofs.raising.raise.Statement.{statement}
+use Rattle.registers.proofs.raising.raise.Tie as tie
+
+flag-number-requires : tie.Need-flag-number-requires
+flag-number-requires c κs = search needs
+
+returns : tie.Need-returns
+returns c = search (needs, to-raised)
+
+pub raise-spec : {M : Type 1} → statement M
+raise-spec = tie.close (tie.spec flag-number-requires returns)

@@ -1,0 +1,14 @@
+use borrow.Author.Needs.{needs}
+use Rattle.base.specs.Bits.{bit, odd}
+use Rattle.registers.proofs.word.bit.Statement.{statement}
+use Rattle.registers.proofs.word.bit.Tie as tie
+
+shr-result : tie.Need-shr-result
+shr-result c = search needs
+
+returns : tie.Need-returns
+unfolding bit odd
+returns c = search needs
+
+pub bit-spec : {M : Type 1} → statement M
+bit-spec = tie.close (tie.spec shr-result returns)

@@ -1,0 +1,250 @@
+// The registers (01 Registers; 001 7.6): the table, the flags, what each address reads and what a write does. Only this crate knows the
+// places of their bits.
+mod raising;
+mod reading;
+mod word;
+mod writing;
+
+pub use raising::raise;
+pub use reading::err;
+pub use reading::read;
+pub use reading::status;
+pub use writing::write;
+ghost use mathlib.Core.Path.{_≡_};
+ghost use Rattle.registers.specs.Registers.{cleared, blocking as blockingOf, isNormal, isFailsafe, regsSound, powerUpControl};
+
+// What a register reads after power-up, and the bits that a write reaches.
+pub struct Register {
+    pub reset: u16,
+    pub writable: u16,
+}
+
+// The device's state.
+pub enum Mode {
+    Normal,
+    Init,
+    Failsafe,
+}
+
+// The flags: OTP, POR, SRST, REG_WRITE, SPI_CRC of STATUS; SPI_CS, QUEUE_OVF, CHECK_BIT, line CRC, SIN of IFST; those of the FIFOs.
+pub struct Flags {
+    pub otp: bool,
+    pub por: bool,
+    pub srst: bool,
+    pub reg_write: bool,
+    pub spi_crc: bool,
+    pub spi_cs: bool,
+    pub queue_ovf: bool,
+    pub check_bit: bool,
+    pub line_crc: bool,
+    pub sin: bool,
+    pub txffovf: bool,
+    pub txffuvf: bool,
+    pub rxffovf: bool,
+    pub rxffuvf: bool,
+}
+
+// The registers that hold what was written.
+pub struct Regs {
+    pub spictrl: u16,
+    pub ccsictrl: u16,
+    pub txfflvl: u16,
+    pub rxfflvl: u16,
+    pub diagmask: u16,
+}
+
+pub struct Control {
+    pub mode: Mode,
+    pub drdy: bool,
+    pub flags: Flags,
+    pub regs: Regs,
+}
+
+// The flags that events raise, by name.
+pub enum Flag {
+    Srst,
+    RegWrite,
+    SpiCrc,
+    SpiCs,
+    QueueOvf,
+    CheckBit,
+    LineCrc,
+    SinStuck,
+    TxOvf,
+    TxUvf,
+    RxOvf,
+    RxUvf,
+}
+
+// What a write asks of the bridge beyond the registers. `Refused` is note 10.
+pub enum Effect {
+    Nothing,
+    TransmitClear,
+    ReceiveClear,
+    Refused,
+}
+
+pub struct Written {
+    pub control: Control,
+    pub effect: Effect,
+}
+
+// By address (01's table): what power-up, write and read go by.
+pub const TABLE: [Register; 11] = [
+    // 0 DEVID
+    Register {
+        reset: 0x0000,
+        writable: 0x0000,
+    },
+    // 1 SPICTRL
+    Register {
+        reset: 0x0000,
+        writable: 0xFF01,
+    },
+    // 2 CCSICTRL
+    Register {
+        reset: 0x0000,
+        writable: 0xFFFF,
+    },
+    // 3 TXFFLVL
+    Register {
+        reset: 0x01FF,
+        writable: 0x81FF,
+    },
+    // 4 RXFFLVL
+    Register {
+        reset: 0x00FF,
+        writable: 0x80FF,
+    },
+    // 5 DEVCTRL
+    Register {
+        reset: 0x0000,
+        writable: 0x0005,
+    },
+    // 6 DIAGMASK
+    Register {
+        reset: 0x0000,
+        writable: 0x0B01,
+    },
+    // 7 STATUS
+    Register {
+        reset: 0x0403,
+        writable: 0x8000,
+    },
+    // 8 IFST
+    Register {
+        reset: 0x0000,
+        writable: 0x0000,
+    },
+    // 9 TXFFST
+    Register {
+        reset: 0x0000,
+        writable: 0x0000,
+    },
+    // 10 RXFFST
+    Register {
+        reset: 0x0000,
+        writable: 0x0000,
+    },
+];
+
+impl Regs {
+    pub const RESET: Regs = Regs {
+        spictrl: TABLE[1].reset,
+        ccsictrl: TABLE[2].reset,
+        txfflvl: TABLE[3].reset,
+        rxfflvl: TABLE[4].reset,
+        diagmask: TABLE[6].reset,
+    };
+}
+
+impl Control {
+    // With good OTP. POR is up and DRDY is 1, as STATUS's reset value says.
+    pub const POWER_UP: Control = Control {
+        mode: Mode::Normal,
+        drdy: true,
+        flags: Flags {
+            otp: false,
+            por: true,
+            srst: false,
+            reg_write: false,
+            spi_crc: false,
+            spi_cs: false,
+            queue_ovf: false,
+            check_bit: false,
+            line_crc: false,
+            sin: false,
+            txffovf: false,
+            txffuvf: false,
+            rxffovf: false,
+            rxffuvf: false,
+        },
+        regs: Regs::RESET,
+    };
+}
+
+pub fn power_up_control() -> Control
+    ensures { λ r. ⌜ r ≡ powerUpControl ⌝ }
+{
+    Control::POWER_UP
+}
+
+// "Clearing clears all but OTP".
+pub fn cleared_flags(flags: Flags) -> Flags
+    ensures { λ r. ⌜ r ≡ cleared flags ⌝ }
+{
+    Flags {
+        otp: flags.otp,
+        por: false,
+        srst: false,
+        reg_write: false,
+        spi_crc: false,
+        spi_cs: false,
+        queue_ovf: false,
+        check_bit: false,
+        line_crc: false,
+        sin: false,
+        txffovf: false,
+        txffuvf: false,
+        rxffovf: false,
+        rxffuvf: false,
+    }
+}
+
+// Whether a forward is refused and no command begins (01 Notes, 5).
+pub fn blocking(flags: Flags) -> bool
+    ensures { λ r. ⌜ r ≡ blockingOf flags ⌝ }
+{
+    flags.txffovf | flags.txffuvf | flags.queue_ovf
+}
+
+pub fn is_normal(mode: Mode) -> bool
+    ensures { λ r. ⌜ r ≡ isNormal mode ⌝ }
+{
+    match mode {
+        Mode::Normal => true,
+        Mode::Init => false, // "Bad OTP stays in INIT": force does not act there.
+        Mode::Failsafe => false,
+    }
+}
+
+pub fn is_failsafe(mode: Mode) -> bool
+    ensures { λ r. ⌜ r ≡ isFailsafe mode ⌝ }
+{
+    match mode {
+        Mode::Normal => false,
+        Mode::Init => false,
+        Mode::Failsafe => true,
+    }
+}
+
+// The record rule of the registers: no bit is up that a write cannot reach.
+pub fn regs_sound(regs: Regs) -> bool
+    ensures { λ r. ⌜ r ≡ regsSound regs ⌝ }
+{
+    let spictrl = regs.spictrl & TABLE[1].writable == regs.spictrl;
+    let txfflvl = regs.txfflvl < 512;
+    let rxfflvl = regs.rxfflvl < 256;
+    let diagmask = regs.diagmask & TABLE[6].writable == regs.diagmask;
+    spictrl & txfflvl & rxfflvl & diagmask
+}
