@@ -1,4 +1,3 @@
-mod Arms
 mod Raised
 pub mod Laws
 mod Examples

@@ -1,15 +1,10 @@
 // The registers (01 Registers; 001 7.6): the table, the flags, what each address reads and what a write does. Only this crate knows the
 // places of their bits.
 mod raising;
-mod reading;
 mod word;
-mod writing;
 
 pub use raising::raise;
-pub use reading::err;
-pub use reading::read;
-pub use reading::status;
-pub use writing::write;
+pub use word::bit;
 ghost use mathlib.Core.Path.{_≡_};
 ghost use Rattle.registers.specs.Registers.{cleared, blocking as blockingOf, isNormal, isFailsafe, regsSound, powerUpControl};
 

@@ -1,0 +1,5 @@
+mod Laws
+mod Turns
+pub mod Ticks
+pub mod Quiet
+pub mod Keeps

@@ -1,0 +1,25 @@
+use borrow.Author.Needs.{needs}
+use Rattle.events.specs.Events.{controlAt}
+use Rattle.events.proofs.clock.control_at.Statement.{statement}
+use Rattle.events.proofs.clock.control_at.Tie as tie
+use Rattle.events.proofs.clock.control_at.Reads as reads
+use Rattle.events.proofs.clock.control_at.Lts as lts
+use Rattle.events.proofs.clock.flags_at.Reads as flags-at-reads
+use Rattle.events.proofs.clock.mode_at.Reads as mode-at-reads
+use Rattle.host.proofs.settled.Reads as settled-reads
+
+mode-at-requires : tie.Need-mode-at-requires
+mode-at-requires c κs = search needs
+
+flags-at-requires : tie.Need-flags-at-requires
+flags-at-requires c κs = search needs
+
+settled-requires : tie.Need-settled-requires
+settled-requires c κs = search needs
+
+returns : tie.Need-returns
+unfolding controlAt
+returns c = cc
+
+pub control-at-spec : {M : Type 1} → statement M
+control-at-spec = tie.close (tie.spec mode-at-requires flags-at-requires settled-requires returns)

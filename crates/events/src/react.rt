@@ -1,0 +1,90 @@
+// One rule an event: what it does to the state, what it says, and the words that it stores.
+use crate::Did;
+use crate::Event;
+use crate::clock::clocked;
+use crate::tick::ticked;
+use host::Plan;
+use state::Bridge;
+use state::Clock;
+use state::Note;
+use state::Store;
+ghost use mathlib.Core.Path.{_≡_};
+ghost use Rattle.command.specs.Layouts.{ours};
+ghost use Rattle.host.specs.Frames.{planned, releasedIn};
+ghost use Rattle.host.specs.Plan.{marked};
+ghost use Rattle.state.specs.Facts.{HostFit, SendFit, Doable};
+ghost use Rattle.state.specs.Sending.{stored};
+ghost use Rattle.events.specs.Events.{powered as poweredOf, quietly as quietlyOf, hosted as hostedOf, reacted};
+
+// A state, with nothing on either line.
+pub fn quietly(bridge: Bridge) -> Did
+    ensures { λ r. ⌜ r ≡ quietlyOf bridge ⌝ }
+{
+    Did {
+        bridge: bridge,
+        sdo: 0xFFFF,
+        sout: true,
+        note: Note::Done,
+        tx: Store::Keep,
+        rx: Store::Keep,
+    }
+}
+
+fn powered(good: bool) -> Bridge
+    ensures { λ r. ⌜ r ≡ poweredOf good ⌝ }
+{
+    if good {
+        return Bridge::good();
+    }
+    Bridge::bad()
+}
+
+// A host's plan carried out.
+fn hosted(bridge: Bridge, clock: Clock, plan: Plan) -> Did
+    requires { ⌜ HostFit bridge ⌝ }
+    requires { ⌜ Doable (stored (bridge .sending) (plan .store)) (plan .deed) ⌝ }
+    ensures { λ r. ⌜ r ≡ hostedOf ours bridge clock plan ⌝ }
+{
+    let after = host::performed(bridge, clock, plan);
+    let note = plan.note;
+    let store = plan.store;
+    Did {
+        bridge: after,
+        sdo: plan.sdo,
+        sout: true,
+        note: note,
+        tx: store,
+        rx: Store::Keep,
+    }
+}
+
+fn word_event(bridge: Bridge, word: u16, rx_oldest: u16) -> Did
+    requires { ⌜ HostFit bridge ⌝ }
+    ensures { λ r. ⌜ r ≡ hostedOf ours bridge (marked (bridge .clock)) (planned ours bridge word «rx_oldest») ⌝ }
+{
+    let plan = host::planned(bridge, word, rx_oldest);
+    let clock = host::marked(bridge.clock);
+    hosted(bridge, clock, plan)
+}
+
+fn release_event(bridge: Bridge) -> Did
+    requires { ⌜ HostFit bridge ⌝ }
+    ensures { λ r. ⌜ r ≡ hostedOf ours bridge (bridge .clock) (releasedIn bridge (bridge .frame .phase)) ⌝ }
+{
+    let plan = host::released(bridge);
+    let clock = bridge.clock;
+    hosted(bridge, clock, plan)
+}
+
+pub fn react(bridge: Bridge, event: Event, tx_oldest: u16, rx_oldest: u16) -> Did
+    requires { ⌜ HostFit bridge ⌝ }
+    ensures { λ r. ⌜ r ≡ reacted ours bridge event «tx_oldest» «rx_oldest» ⌝ }
+{
+    match event {
+        Event::Power(good) => quietly(powered(good)),
+        Event::Word(word) => word_event(bridge, word, rx_oldest),
+        Event::Release => release_event(bridge),
+        Event::Tick(sin) => ticked(bridge, sin, tx_oldest),
+        Event::Clock(reading) => clocked(bridge, reading),
+    }
+}

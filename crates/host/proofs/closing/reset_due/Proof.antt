@@ -1,0 +1,22 @@
+use borrow.Author.Needs.{needs}
+use Rattle.host.specs.Frames.{crcDue}
+use Rattle.base.specs.Pick.{picks}
+use Rattle.host.proofs.closing.reset_due.Statement.{statement}
+use Rattle.host.proofs.closing.reset_due.Tie as tie
+
+reset-closed-requires : tie.Need-reset-closed-requires
+reset-closed-requires c κs = search needs
+
+returns : tie.Need-returns
+unfolding crcDue
+returns c = search (needs, picks)
+
+wrong-crc-requires : tie.Need-wrong-crc-requires
+wrong-crc-requires c κs = search needs
+
+returns-2 : tie.Need-returns-2
+unfolding crcDue
+returns-2 c = search (needs, picks)
+
+pub reset-due-spec : {M : Type 1} → statement M
+reset-due-spec = tie.close (tie.spec reset-closed-requires returns wrong-crc-requires returns-2)

@@ -1,0 +1,21 @@
+use borrow.Author.Needs.{needs}
+use Rattle.host.specs.Forward.{forwardBegun}
+use Rattle.host.proofs.forward.forward_begun.Statement.{statement}
+use Rattle.host.proofs.forward.forward_begun.Tie as tie
+
+new-place-requires : tie.Need-new-place-requires
+new-place-requires c κs = search needs
+
+guard-requires : tie.Need-guard-requires
+guard-requires c κs = search needs
+
+forwarded-requires : tie.Need-forwarded-requires
+forwarded-requires c κs = search needs
+
+returns : tie.Need-returns
+unfolding forwardBegun
+returns c = cc
+
+pub forward-begun-spec : {M : Type 1} → statement M
+forward-begun-spec =
+    tie.close (tie.spec new-place-requires guard-requires forwarded-requires returns)

@@ -1,0 +1,13 @@
+use borrow.Author.Needs.{needs}
+use Rattle.base.specs.Pick.{picks}
+use Rattle.host.proofs.writes.receive_of.Statement.{statement}
+use Rattle.host.proofs.writes.receive_of.Tie as tie
+
+returns : tie.Need-returns
+returns c = search (needs, picks)
+
+returns-2 : tie.Need-returns-2
+returns-2 c = search (needs, picks)
+
+pub receive-of-spec : {M : Type 1} → statement M
+receive-of-spec = tie.close (tie.spec returns returns-2)

@@ -1,0 +1,199 @@
+// A host word by the frame's phase, and chip select (01 Frames; notes 3 and 4).
+ghost use mathlib.Core.Path.{_≡_};
+ghost use mathlib.Core.Bool.{Bool, true, false};
+ghost use Prim.Native.Nat.{ℕ, _≤_, _<_};
+ghost use lib.Dec.{ltb, eqb};
+ghost use Rattle.base.specs.Pick.{pick};
+ghost use Rattle.command.specs.Layouts.{ours};
+ghost use Rattle.state.specs.Facts.{SendFit, HostFit};
+ghost use Rattle.state.specs.Frame.{dataWords, collectSound};
+ghost use Rattle.host.specs.Frames.{collects as collectsOf, opened as openedOf, dataWord, crcDue, planned as plannedOf, releasedIn};
+use crate::Plan;
+use crate::answers::answered;
+use crate::closing::crc_due;
+use crate::closing::cut;
+use crate::closing::is_due;
+use crate::forward::forward_begun;
+use crate::forward::forward_word;
+use crate::plans::plain;
+use crate::writes::register_word;
+use command::Command;
+use state::Bridge;
+use state::Note;
+use state::Phase;
+
+fn collects(bridge: Bridge, command: Command, sum: u16) -> Plan
+    ensures { λ r. ⌜ r ≡ collectsOf bridge command sum ⌝ }
+{
+    let phase = Phase::Collecting {
+        command: command,
+        got: 0,
+        crc: sum,
+        mine: 0,
+        released: false,
+        blocked: false,
+    };
+    plain(bridge, phase, Note::Done)
+}
+
+// The command word.
+fn opened(bridge: Bridge, command: Command, sum: u16) -> Plan
+    ensures { λ r. ⌜ r ≡ openedOf bridge command sum ⌝ }
+{
+    match command {
+        Command::Filler => plain(bridge, Phase::Idle, Note::Done),
+        Command::Malformed => plain(bridge, Phase::Discarding, Note::MalformedWord),
+        Command::Forward {
+            crc,
+            words,
+            ends,
+            reads,
+        } => {
+            let blocked = registers::blocking(bridge.control.flags);
+            forward_begun(bridge, command, crc, words, ends, reads, sum, blocked)
+        }
+        Command::DataRead { crc: _, words: _ } => collects(bridge, command, sum),
+        Command::RegisterWrite {
+            crc: _,
+            address: _,
+            count: _,
+        } => collects(bridge, command, sum),
+        Command::RegisterRead {
+            crc: _,
+            address: _,
+            count: _,
+        } => collects(bridge, command, sum),
+        Command::SoftReset => collects(bridge, command, sum),
+    }
+}
+
+// A data word; `sum` is the CRC with it.
+fn data_word(
+    bridge: Bridge,
+    command: Command,
+    got: u16,
+    sum: u16,
+    mine: u16,
+    released: bool,
+    blocked: bool,
+    word: u16,
+) -> Plan
+    requires { ⌜ (SendFit (bridge .sending)) × (mine ≤ bridge .sending .tx .count) × (collectSound command got mine released blocked ≡ true) × (got < dataWords command) ⌝ }
+    ensures { λ r. ⌜ r ≡ dataWord bridge command got sum mine released blocked word ⌝ }
+{
+    match command {
+        Command::Filler => plain(bridge, Phase::Idle, Note::Done),
+        Command::Malformed => plain(bridge, Phase::Idle, Note::Done),
+        Command::Forward {
+            crc,
+            words,
+            ends,
+            reads,
+        } => {
+            forward_word(
+                bridge,
+                command,
+                crc,
+                words,
+                ends,
+                reads,
+                got + 1,
+                sum,
+                mine,
+                released,
+                blocked,
+                word,
+            )
+        }
+        Command::DataRead { crc: _, words: _ } => plain(bridge, Phase::Idle, Note::Done),
+        Command::RegisterWrite {
+            crc,
+            address,
+            count: _,
+        } => {
+            let phase = Phase::Collecting {
+                command: command,
+                got: got + 1,
+                crc: sum,
+                mine: mine,
+                released: released,
+                blocked: blocked,
+            };
+            register_word(bridge, crc, address, got, phase, word)
+        }
+        Command::RegisterRead {
+            crc: _,
+            address: _,
+            count: _,
+        } => plain(bridge, Phase::Idle, Note::Done),
+        Command::SoftReset => plain(bridge, Phase::Idle, Note::Done),
+    }
+}
+
+// A data word or the CRC word.
+fn collected(
+    bridge: Bridge,
+    command: Command,
+    got: u16,
+    crc: u16,
+    mine: u16,
+    released: bool,
+    blocked: bool,
+    word: u16,
+) -> Plan
+    requires { ⌜ (SendFit (bridge .sending)) × (mine ≤ bridge .sending .tx .count) × (collectSound command got mine released blocked ≡ true) ⌝ }
+    ensures { λ r. ⌜ r ≡ pick (ltb got (dataWords command)) (dataWord bridge command got (ours .crcStep crc word) mine released blocked word) (crcDue ours bridge command mine blocked (eqb word crc)) ⌝ }
+{
+    if is_due(command, got) {
+        let sum = crc16::crc_word(crc, word);
+        return data_word(bridge, command, got, sum, mine, released, blocked, word);
+    }
+    crc_due(bridge, command, mine, blocked, word == crc)
+}
+
+// A host word; `rx_oldest` is the oldest word of RX.
+pub fn planned(bridge: Bridge, word: u16, rx_oldest: u16) -> Plan
+    requires { ⌜ HostFit bridge ⌝ }
+    ensures { λ r. ⌜ r ≡ plannedOf ours bridge word «rx_oldest» ⌝ }
+{
+    let frame = bridge.frame;
+    let phase = frame.phase;
+    match phase {
+        Phase::Idle => opened(
+            bridge,
+            command::decode(word),
+            crc16::crc_word(crc16::START, word),
+        ),
+        Phase::Collecting {
+            command,
+            got,
+            crc,
+            mine,
+            released,
+            blocked,
+        } => { collected(bridge, command, got, crc, mine, released, blocked, word) }
+        Phase::Answering { reply, crc } => answered(bridge, reply, crc, rx_oldest),
+        Phase::Discarding => plain(bridge, Phase::Discarding, Note::Discarded),
+    }
+}
+
+// Chip select released.
+pub fn released(bridge: Bridge) -> Plan
+    ensures { λ r. ⌜ r ≡ releasedIn bridge (bridge .frame .phase) ⌝ }
+{
+    let frame = bridge.frame;
+    let phase = frame.phase;
+    match phase {
+        Phase::Idle => plain(bridge, Phase::Idle, Note::Done),
+        Phase::Collecting {
+            command,
+            got,
+            crc: _,
+            mine,
+            released,
+            blocked: _,
+        } => cut(bridge, command, got, mine, released),
+        Phase::Answering { reply: _, crc: _ } => plain(bridge, Phase::Idle, Note::Done),
+        Phase::Discarding => plain(bridge, Phase::Idle, Note::Done),
+    }
+}

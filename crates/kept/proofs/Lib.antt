@@ -1,0 +1,13 @@
+pub mod Tests
+pub mod Owed
+pub mod Sound
+pub mod Queue
+pub mod Sender
+pub mod Reader
+pub mod Deeds
+pub mod Doable
+pub mod HostFacts
+pub mod Forward
+pub mod Fits
+pub mod Perform
+pub mod Host

@@ -1,0 +1,32 @@
+-- The record rules of the sending side and of the whole, as facts: `sound` of `rules` tests them (01 Notes, note 2). Assumes nothing.
+use mathlib.Core.Path.{_≡_}
+use mathlib.Core.Bool.{true}
+use Prim.Native.Nat.{ℕ, _+_, _≤_, _<_}
+use lib.ListN.{length}
+use Rattle.line.specs.Format.{pieceLength}
+use Rattle.registers.specs.Registers.{regsSound}
+use Rattle.rules.specs.Sound.{earSound, lastLeft}
+use Rattle.state.specs.Facts.{RingFit, QueueFit}
+use Rattle.state.specs.Frame.{mineOf, toCome, phaseSound}
+use Rattle.state.specs.Queue.{waiting, wordsOf}
+use Rattle.state.specs.declared.Bridge.{Bridge}
+use Rattle.state.specs.declared.Sending.{Sending}
+
+-- `toCome` and `mine` are the open frame's: the words that it has still to bring for the place it queued, and its own in TX.
+pub record SendRules (s : Sending) (toCome mine : ℕ) : Type 0 where
+  pub tx : RingFit 512 (s .tx)
+  pub queue : QueueFit (s .queue)
+  pub eight : length (s .queue .places) ≡ 8
+  pub gone : s .sender .gone ≤ pieceLength (s .sender .piece)
+  pub left : s .sender .left ≤ 4096
+  pub ends : s .sender .ends ≤ 128
+  pub sum : s .tx .count + toCome ≡ s .sender .left + wordsOf (waiting (s .queue)) + mine
+  pub room : toCome ≤ lastLeft s
+  pub apart : 0 < toCome → mine ≡ 0
+
+pub record BridgeRules (b : Bridge) : Type 0 where
+  pub sending : SendRules (b .sending) (toCome (b .frame .phase)) (mineOf (b .frame .phase))
+  pub phase : phaseSound (b .frame .phase) ≡ true
+  pub rx : RingFit 256 (b .receiving .rx)
+  pub ear : earSound (b .receiving .reader .ear) ≡ true
+  pub regs : regsSound (b .control .regs) ≡ true

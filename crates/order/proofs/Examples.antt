@@ -1,0 +1,131 @@
+-- Closed runs. That each meets the premises, and has sent all, is computed; what its line shows is told by the theorem alone.
+use mathlib.Core.Path.{_≡_, refl, _∙_, subst}
+use mathlib.Core.Bool.{Bool, true, false}
+use mathlib.Core.List.{List, [], _∷_, _++_, map}
+use Prim.Native.Nat.{ℕ}
+use lib.ListN.{replicate, length-replicate}
+use Rattle.base.specs.Bits.{val, odd, bit, highFirst}
+use Rattle.base.specs.Pick.{pick}
+use Rattle.crc16.specs.Crc.{shift, crcBit, crcBits, crcWord, crcFrom, crcOf}
+use Rattle.command.specs.Layout.{write, registerWrite, rows, byNumber, decodeOurs, writeEnds}
+use Rattle.registers.specs.Raising.{raised}
+use Rattle.registers.specs.Registers.{blocking, isNormal, powerUpControl, table, resetRegs, cleared, powerUpFlags}
+use Rattle.registers.specs.Writing.{writeStatus, writeMasked, writeOf, writeTxfflvl}
+use Rattle.line.specs.Format.{checkBit, pieceLength, wordBit, pieceBit}
+use Rattle.line.specs.Reader.{Sent, runOn, shiftIn, atCheck, inGroup, inLost, hear, readLine}
+use Rattle.state.specs.Frame.{dataWords, mineOf, owedBy, toCome, collectSound, replySound, phaseSound}
+use Rattle.state.specs.Power.{powerUp}
+use Rattle.state.specs.Queue.{noPlace, newPlace, waiting, wordsOf, moved, freed, firstUnread, claimed, returned}
+use Rattle.state.specs.Rings.{written, ringAfter}
+use Rattle.state.specs.Sending.{stored, done}
+use Rattle.rules.specs.Sound.{earSound}
+use Rattle.sender.specs.Sender.{choose, bitSent, wordSent, queueSent, senderAfter, advanced, finished, isStarve, isStart, sentBy, tickSender, placeSent}
+use Rattle.reader.specs.Reader.{wordRead, errorRead, endRead, wordTaken, atEnd, ended, takenBy, tickReader, began}
+use Rattle.host.specs.Forward.{asksStore, guard, mineAfter, enqueues, clears, forwarded, forwardWord, forwardBegun, faulted}
+use Rattle.host.specs.Frames.{opened, isQuiet, isTransmitClear, isReceiveClear, isRefused, withWrite, registerWord, dataWord, wrongCrc, forwardClosed, crcDue, plannedIn, planned, releasedIn, registersClosed}
+use Rattle.host.specs.Plan.{clearedAway, received, settled, concluded, performed}
+use Rattle.events.specs.Events.{powered, isForward, blockedIn, same, markAfter, watched, starvedFlags, flagsSent, phaseAfter, controlTicked, tickEnds, tickHears, ticked, clocked, reacted, tickNote, elapsed, modeAt, flagsAt, controlAt}
+use Rattle.bridge.specs.Step.{step}
+use Rattle.events.specs.Turn.{turned, turn}
+use Rattle.kept.proofs.Fits.{ours-fits}
+use Rattle.order.specs.Accepted.{planOf, came, accepts, collects, joined, settle, logged, logBy, listed, acceptedIn}
+use Rattle.order.specs.Premises.{isPower, typed, fair, premises}
+use Rattle.order.specs.Runs.{Config, outOf, next, endOf, lineBit, soutOf, powerOn, allSent}
+use Rattle.command.specs.Layouts.{ours}
+use Rattle.events.specs.declared.Event.{Event}
+use Rattle.events.specs.declared.Event.the-variants.{Word, Release, Tick, Clock as ClockReading}
+use Rattle.order.proofs.Order.{in-order, all-sent}
+use Rattle.order.proofs.Tests.{are-premises, is-all-sent}
+
+-- From power-up with good OTP, both stores full of zeros.
+abbrev pub from : Config
+from = powerOn true (replicate 512 0) (replicate 256 0)
+
+-- The line's bits that nobody drives.
+pub ticks : ℕ → List Event
+ticks n = replicate n (Tick true)
+
+-- A frame: its words, their CRC, chip select released.
+pub frame : List ℕ → List Event
+frame ws = map Word ws ++ (Word (crcOf ws) ∷ (Release ∷ []))
+
+-- REG_WR of STATUS bit 15: POR is cleared, so that the sender may start.
+pub opening : List Event
+opening = frame (0xB007 ∷ 0x8000 ∷ [])
+
+-- The run meets the premises; at its end all is sent.
+unfoldable meets : List Event → Bool
+unfolding ticks frame opening val odd bit highFirst pick shift crcBit crcBits crcWord crcFrom crcOf write registerWrite rows byNumber decodeOurs raised blocking isNormal powerUpControl writeStatus writeMasked writeOf checkBit pieceLength wordBit pieceBit runOn shiftIn atCheck inGroup inLost hear dataWords mineOf owedBy toCome collectSound replySound phaseSound powerUp noPlace newPlace waiting wordsOf moved freed firstUnread claimed returned written ringAfter stored done earSound choose bitSent wordSent queueSent senderAfter advanced finished isStarve isStart sentBy tickSender wordRead errorRead endRead wordTaken atEnd ended takenBy tickReader asksStore guard mineAfter enqueues clears forwarded forwardWord forwardBegun opened isQuiet isTransmitClear isReceiveClear isRefused withWrite registerWord dataWord wrongCrc forwardClosed crcDue plannedIn planned releasedIn clearedAway received settled concluded performed powered isForward blockedIn same markAfter watched starvedFlags flagsSent phaseAfter controlTicked tickEnds tickHears ticked clocked reacted turned turn step planOf came accepts collects joined settle logged logBy listed acceptedIn isPower typed fair premises outOf next endOf lineBit soutOf powerOn allSent table resetRegs cleared powerUpFlags writeTxfflvl registersClosed faulted tickNote elapsed modeAt flagsAt controlAt placeSent writeEnds began
+meets es = premises ours from es
+
+unfoldable sends-all : List Event → Bool
+unfolding meets
+sends-all es = allSent (endOf ours from es .bridge .sending)
+
+-- What the theorems say of such a run.
+shows : (es : List Event) → meets es ≡ true → Sent (readLine (soutOf ours from es)) (acceptedIn ours from es)
+unfolding meets
+shows es h =
+    in-order ours ours-fits true (replicate 512 0) (replicate 256 0) es (length-replicate {A = ℕ} 512 0) (length-replicate {A = ℕ} 256 0)
+    (are-premises ours from es h)
+
+shows-all : (es : List Event) → meets es ≡ true → sends-all es ≡ true
+    → readLine (soutOf ours from es) .finished ≡ acceptedIn ours from es
+unfolding meets sends-all
+shows-all es h d =
+    all-sent ours ours-fits true (replicate 512 0) (replicate 256 0) es (length-replicate {A = ℕ} 512 0) (length-replicate {A = ℕ} 256 0)
+    (are-premises ours from es h) (is-all-sent _ d)
+
+-- Two call-ups that land together: FWD_WR_CRC of one word, then of two, before a bit is sent.
+pub together : List Event
+together = opening ++ (frame (0x2000 ∷ 0xAAF0 ∷ []) ++ (frame (0x2001 ∷ 0x1234 ∷ 0x5678 ∷ []) ++ ticks 89))
+
+pub together-shows : readLine (soutOf ours from together) .finished ≡ (0xAAF0 ∷ []) ∷ (0x1234 ∷ 0x5678 ∷ []) ∷ []
+unfolding meets sends-all together
+together-shows = shows-all together refl refl ∙ refl
+
+-- Host words, a clock reading and 0s on SIN between the bits of the first command's word.
+pub amid : List Event
+amid =
+    opening
+    ++ (frame (0x2000 ∷ 0xAAF0 ∷ [])
+    ++ (ticks 5
+    ++ (Word 0x2001 ∷ Tick true ∷ Word 0x1234 ∷ Tick false ∷ ClockReading 3 ∷ Tick false ∷ Word 0x5678 ∷ Tick true
+    ∷ Word (crcOf (0x2001 ∷ 0x1234 ∷ 0x5678 ∷ [])) ∷ Tick true ∷ Release ∷ ticks 79)))
+
+pub amid-shows : readLine (soutOf ours from amid) .finished ≡ (0xAAF0 ∷ []) ∷ (0x1234 ∷ 0x5678 ∷ []) ∷ []
+unfolding meets sends-all amid
+amid-shows = shows-all amid refl refl ∙ refl
+
+-- TXFFLVL written 0, then FWD_WR of two words: released at the first, and begun before the second comes.
+pub early : List Event
+early = opening ++ (frame (0xB003 ∷ 0x0000 ∷ []) ++ (Word 0x3001 ∷ Word 0x1111 ∷ ticks 10))
+
+pub late : List Event
+late = Word 0x2222 ∷ ticks 8 ++ (Word (crcOf (0x3001 ∷ 0x1111 ∷ 0x2222 ∷ [])) ∷ Release ∷ ticks 35)
+
+pub early-accepted : acceptedIn ours from early ≡ (0x1111 ∷ []) ∷ []
+unfolding meets early
+early-accepted = refl
+
+early-meets : meets early ≡ true
+unfolding meets early
+early-meets = refl
+
+pub early-in-order : Sent (readLine (soutOf ours from early)) ((0x1111 ∷ []) ∷ [])
+early-in-order = subst (Sent (readLine (soutOf ours from early))) early-accepted (shows early early-meets)
+
+pub early-shows : readLine (soutOf ours from (early ++ late)) .finished ≡ (0x1111 ∷ 0x2222 ∷ []) ∷ []
+unfolding meets sends-all early late
+early-shows = shows-all (early ++ late) refl refl ∙ refl
+
+-- A wrong CRC word takes two words back; a place of one END alone goes before a command of one word and two extra ENDs.
+pub mended : List Event
+mended =
+    opening
+    ++ (Word 0x2001 ∷ Word 0x1111 ∷ Word 0x2222 ∷ Word 0x0000 ∷ Release
+    ∷ (frame (0x5020 ∷ []) ++ (frame (0x4041 ∷ 0xFFFF ∷ []) ++ ticks 90)))
+
+pub mended-shows : readLine (soutOf ours from mended) .finished ≡ (0xFFFF ∷ []) ∷ []
+unfolding meets sends-all mended
+mended-shows = shows-all mended refl refl ∙ refl

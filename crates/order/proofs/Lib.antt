@@ -1,0 +1,14 @@
+mod Truth
+mod Ring
+mod Waiting
+mod Account
+mod Exact
+mod Sending
+mod Hearing
+mod Frames
+mod Forwards
+mod Plans
+mod Steps
+pub mod Order
+pub mod Tests
+pub mod Examples

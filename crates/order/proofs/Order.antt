@@ -1,0 +1,138 @@
+-- Demand 3: from power-up, under the premises, the line shows the accepted commands that carry words, in order, every word unchanged; once
+-- all are sent it shows them all; and its bits are exactly theirs.
+use mathlib.Core.Path.{_≡_, refl}
+use mathlib.Core.Bool.{Bool, true, false, _&&_}
+use mathlib.Core.List.{List, [], _∷_, _++_, append-assoc, append-nil}
+use Prim.Native.Nat.{ℕ, _-_}
+use native.Mathlib.Omega.{arith}
+use lib.Dec.{leb, eqb}
+use lib.ListN.{length}
+use borrow.Author.Tests.{leb-true, eqb-true}
+use Rattle.base.specs.Pick.{pick, and-l, and-r}
+use Rattle.command.specs.Layouts.{Layout}
+use Rattle.line.specs.Format.{pieceLength}
+use Rattle.line.specs.Reader.{readLine, Sent}
+use Rattle.registers.specs.Registers.{blocking, powerUpControl, powerUpFlags}
+use Rattle.state.specs.Power.{powerUp, badControl, powerUpBad}
+use Rattle.state.specs.Queue.{waiting}
+use Rattle.state.specs.declared.Sending.{Sending}
+use Rattle.events.specs.Events.{powered}
+use Rattle.events.specs.Turn.{turned, turn}
+use Rattle.events.specs.declared.Event.{Event}
+use Rattle.events.proofs.Keeps.{rules-keep}
+use Rattle.kept.proofs.Fits.{LayoutFit}
+use Rattle.events.proofs.Quiet.{power-keeps}
+use Rattle.kept.specs.Rules.{BridgeRules}
+use Rattle.kept.proofs.Sound.{facts-sound}
+use Rattle.order.specs.Runs.{Config, outOf, next, endOf, lineBit, soutOf, powerOn, AllSent}
+use Rattle.order.specs.Accepted.{planOf, Log, noLog, logged, logBy, listed, acceptedIn}
+use Rattle.order.specs.Premises.{Fair, Premises, typed}
+use Rattle.order.specs.Exactly.{Exactly, Whole}
+use Rattle.order.proofs.Ring.{view}
+use Rattle.order.proofs.Account.{countsOf, concat, lengths}
+use Rattle.order.proofs.Exact.{exact-power, exact-sent, exact-exactly, exact-whole, whole-read}
+use Rattle.order.proofs.Sending.{Holds, inTx}
+use Rattle.order.proofs.Frames.{Kept, listed-kept}
+use Rattle.order.proofs.Steps.{Between, step-turn, between-turn}
+
+module _ (l : Layout) (fits : LayoutFit l) where
+  -- No event of a run meets notes 1 and 2: the record rules are kept.
+  rules-next : (c : Config) (bits : List Bool) (g : Log) (e : Event) → Between c bits g → BridgeRules (c .bridge)
+      → BridgeRules (next l c e .bridge)
+  unfolding next outOf turn turned
+  rules-next c bits g e i r =
+      rw (step-turn l (c .bridge) (c .tx) (c .rx) e (i .holds .cells-are) (i .rx-is) (facts-sound (c .bridge) r))
+      (rules-keep l fits (c .bridge) e _ _ r)
+
+  between-step : (c : Config) (bits : List Bool) (g : Log) (e : Event) → Between c bits g → BridgeRules (c .bridge) → Fair l c e
+      → Between (next l c e) (bits ++ lineBit e (outOf l c e .answer .sout)) (logged g (planOf l c e))
+  unfolding next outOf
+  between-step c bits g e i r f =
+      between-turn l c bits g i e _
+      (step-turn l (c .bridge) (c .tx) (c .rx) e (i .holds .cells-are) (i .rx-is) (facts-sound (c .bridge) r)) (f .typed) (f .no-power)
+      (f .no-clear) (f .no-cut) (f .no-fault)
+
+  between-run : (c : Config) (bits : List Bool) (g : Log) (es : List Event) → Between c bits g → BridgeRules (c .bridge)
+      → Premises l c es → Between (endOf l c es) (bits ++ soutOf l c es) (logBy l g c es)
+  unfolding endOf soutOf logBy
+  between-run c bits g [] i r p = rw append-nil i
+  between-run c bits g (e ∷ es) i r p =
+      rw (← (append-assoc bits (lineBit e (outOf l c e .answer .sout)) (soutOf l (next l c e) es)))
+      (between-run (next l c e) _ _ es (between-step c bits g e i r (p .0)) (rules-next c bits g e i r) (p .1))
+
+holds-power : (good : Bool) (tx : List ℕ) → length tx ≡ 512 → Holds (powered good .sending) tx [] [] []
+unfolding powered pick powerUp powerUpBad view waiting countsOf
+holds-power true tx t =
+    record { exact = exact-power; head = omega arith; cells-are = t; queue = record { order = omega arith; most = omega arith; eight = refl } }
+holds-power false tx t =
+    record { exact = exact-power; head = omega arith; cells-are = t; queue = record { order = omega arith; most = omega arith; eight = refl } }
+
+kept-power : (good : Bool) → Kept (powered good .frame .phase) noLog [] []
+unfolding powered pick powerUp powerUpBad Kept concat lengths
+kept-power true = record { no-words = refl; not-accepted = refl; stored-are = refl; counts-are = refl }
+kept-power false = record { no-words = refl; not-accepted = refl; stored-are = refl; counts-are = refl }
+
+clear-power : (good : Bool) → blocking (powered good .control .flags) ≡ false
+unfolding powered pick powerUp powerUpBad powerUpControl powerUpFlags badControl blocking
+clear-power true = refl
+clear-power false = refl
+
+between-power : (good : Bool) (tx rx : List ℕ) → length tx ≡ 512 → length rx ≡ 256 → Between (powerOn good tx rx) [] noLog
+unfolding powerOn
+between-power good tx rx t r =
+    record { S = []; K = []; holds = holds-power good tx t; kept = kept-power good; no-fault = clear-power good; rx-is = r }
+
+-- What the end of a run says of its line.
+in-order-between : (c : Config) (bits : List Bool) (g : Log) → Between c bits g → Sent (readLine bits) (listed g)
+in-order-between c bits g i = rw (listed-kept (c .bridge .frame .phase) g _ _ (i .kept)) (exact-sent _ _ _ bits _ _ (i .holds .exact))
+
+exactly-between : (c : Config) (bits : List Bool) (g : Log) → Between c bits g → Exactly bits (c .bridge .sending .sender) (listed g)
+exactly-between c bits g i = rw (listed-kept (c .bridge .frame .phase) g _ _ (i .kept)) (exact-exactly _ _ _ bits _ _ (i .holds .exact))
+
+none-counted : (s : Sending) → s .queue .begun ≡ s .queue .used → countsOf (waiting (s .queue)) ≡ []
+unfolding waiting countsOf
+none-counted s e = let z : s .queue .used - s .queue .begun ≡ 0 = omega arith in rw z
+
+whole-between : (c : Config) (bits : List Bool) (g : Log) → Between c bits g → AllSent (c .bridge .sending) → Whole bits (listed g)
+whole-between c bits g i d =
+    let s = c .bridge .sending in
+    let h : (leb (pieceLength (s .sender .piece)) (s .sender .gone) && eqb (s .sender .left) 0) ≡ true = and-l _ (eqb (s .sender .ends) 0) (d .idle-sender) in
+    rw (listed-kept (c .bridge .frame .phase) g _ _ (i .kept))
+    (exact-whole (s .sender) (inTx s (c .tx)) bits _ _ (rw (none-counted s (d .none-waits)) at (i .holds .exact))
+    (leb-true _ _ (and-l _ (eqb (s .sender .left) 0) h)) (eqb-true _ _ (and-r (leb (pieceLength (s .sender .piece)) (s .sender .gone)) _ h))
+    (eqb-true _ _ (and-r (leb (pieceLength (s .sender .piece)) (s .sender .gone) && eqb (s .sender .left) 0) _ (d .idle-sender))))
+
+-- What begins a run under the premises is one: the theorems below speak of every moment of a run.
+pub premises-before : (l : Layout) (c : Config) (es rest : List Event) → Premises l c (es ++ rest) → Premises l c es
+premises-before l c [] rest p = tt
+premises-before l c (e ∷ es) rest p = (p .0, premises-before l (next l c e) es rest (p .1))
+
+-- Every run from power-up, by a layout whose commands are within the ranges of the record rules.
+module _ (l : Layout) (fits : LayoutFit l) (good : Bool) (tx rx : List ℕ) (es : List Event) (t : length tx ≡ 512) (r : length rx ≡ 256)
+    (p : Premises l (powerOn good tx rx) es) where
+  at-end : Between (endOf l (powerOn good tx rx) es) (soutOf l (powerOn good tx rx) es) (logBy l noLog (powerOn good tx rx) es)
+  unfolding powerOn
+  at-end = between-run l fits (powerOn good tx rx) [] noLog es (between-power good tx rx t r) (power-keeps good) p
+
+  -- The commands finished on the line are the first so many accepted, in order, every word unchanged; the one under way shows the first words
+  -- of the next.
+  pub in-order : Sent (readLine (soutOf l (powerOn good tx rx) es)) (acceptedIn l (powerOn good tx rx) es)
+  unfolding acceptedIn
+  in-order = in-order-between _ _ _ at-end
+
+  -- The line's bits, at every moment, and once all are sent.
+  pub exactly :
+      Exactly (soutOf l (powerOn good tx rx) es) (endOf l (powerOn good tx rx) es .bridge .sending .sender)
+      (acceptedIn l (powerOn good tx rx) es)
+  unfolding acceptedIn
+  exactly = exactly-between _ _ _ at-end
+
+  pub exactly-all : AllSent (endOf l (powerOn good tx rx) es .bridge .sending)
+      → Whole (soutOf l (powerOn good tx rx) es) (acceptedIn l (powerOn good tx rx) es)
+  unfolding acceptedIn
+  exactly-all d = whole-between _ _ _ at-end d
+
+  -- Once all are sent the line shows them all.
+  pub all-sent : AllSent (endOf l (powerOn good tx rx) es .bridge .sending)
+      → readLine (soutOf l (powerOn good tx rx) es) .finished ≡ acceptedIn l (powerOn good tx rx) es
+  all-sent d = whole-read _ _ (exactly-all d)

@@ -1,0 +1,244 @@
+-- Every plan of a host word or of a release of chip select that clears nothing and cuts no frame short keeps the frames' account. Assumes
+-- nothing.
+use mathlib.Core.Path.{_≡_, refl}
+use mathlib.Core.Bool.{Bool, true, false, not, _&&_}
+use mathlib.Core.List.{List, _++_}
+use mathlib.Core.Logic.{_≢_}
+use Prim.Native.Nat.{ℕ, _+_, _-_, _≤_, _<_}
+use native.Mathlib.Omega.{arith}
+use lib.Dec.{ltb, leb, eqb}
+use lib.ListN.{length}
+use borrow.Author.Tests.{ltb-true, ltb-false, eqb-true, eqb-false, not-true}
+use Rattle.base.specs.Pick.{pick, pick-keeps, and-l, and-r}
+use Rattle.command.specs.Layouts.{Layout}
+use Rattle.command.specs.declared.Command.{Command}
+use Rattle.command.specs.declared.Command.the-variants.{Filler, Malformed, Forward, DataRead, RegisterWrite, RegisterRead, SoftReset}
+use Rattle.registers.specs.Registers.{blocking}
+use Rattle.state.specs.Frame.{dataWords}
+use Rattle.state.specs.Notes.{noteNumber}
+use Rattle.state.specs.declared.Bridge.{Bridge}
+use Rattle.state.specs.declared.Deed.the-variants.{Leave, ClearAll}
+use Rattle.state.specs.declared.Phase.{Phase}
+use Rattle.state.specs.declared.Phase.the-variants.{Idle, Collecting, Answering, Discarding}
+use Rattle.state.specs.declared.Reply.{Reply}
+use Rattle.state.specs.declared.Reply.the-variants.{Status, Data, Registers, Check}
+use Rattle.state.specs.declared.Store.the-variants.{Keep, Put}
+use Rattle.host.specs.Forward.{asksStore, clears, enqueues, mineAfter, faulted, forwarded, releases, forwardWord, forwardBegun}
+use Rattle.host.specs.Frames.{opened, heldWord, registerWord, dataWord, closed, wrongCrc, forwardClosed, registersClosed, readClosed, resetClosed, crcDue, answerWith, dataAnswered, registerAnswered, answered, plannedIn, planned, cut, releasedIn}
+use Rattle.host.specs.declared.Granted.{Granted}
+use Rattle.host.specs.declared.Plan.{Plan}
+use Rattle.host.specs.declared.Receive.the-variants.{LeaveRx}
+use Rattle.order.specs.Accepted.{Log}
+use Rattle.order.proofs.Truth.{never, or-r}
+use Rattle.order.proofs.Account.{concat, lengths}
+use Rattle.order.proofs.Frames.{Shut, Pending, Released, Open, InFrame, Kept, Goes, GoesBy, Rests, rests-idle, rests-answering, rests-discarding, goes-quiet}
+use Rattle.order.proofs.Forwards.{guard-grants, over-released, over-pending, over-queued, over-back, over-nothing, begun-queued, begun-pending, word-queued, word-pending, word-released}
+
+-- A plan that clears nothing keeps the account.
+abbrev Good : Bridge → Log → List ℕ → List ℕ → Plan → Type 0
+Good b g S K p = clears (p .deed) ≡ false → GoesBy (b .sending) g S K p
+
+module _ (b : Bridge) (g : Log) (S K : List ℕ) where
+  -- Plans that leave the sending side alone.
+  module _ (h : Shut g S K) where
+    quiet : (ph : Phase) → Rests ph → Goes (b .sending) g S K ph Keep Leave false
+    quiet ph r = goes-quiet (b .sending) g S K ph false r (λ e. never false e refl) h
+
+    quiet-over : Goes (b .sending) g S K Idle Keep Leave true
+    quiet-over = goes-quiet (b .sending) g S K Idle true rests-idle (λ e. refl) h
+
+    -- Register writes, where they do not clear.
+    effects : (t : Bool) (ph : Phase) (status : Bool) → Rests ph → (status ≡ true → ph ≡ Idle) → clears (pick t ClearAll Leave) ≡ false
+        → Goes (b .sending) g S K ph Keep (pick t ClearAll Leave) status
+    unfolding pick clears
+    effects true ph status r e k = never true refl k
+    effects false ph status r e k = goes-quiet (b .sending) g S K ph status r e h
+
+    wrong-crc : (crc : Bool) (mine : ℕ) → mine ≡ 0 → Good b g S K (wrongCrc b crc mine)
+    unfolding wrongCrc
+    wrong-crc crc mine z =
+        pick-keeps (Good b g S K) _ _ _ (λ t k. over-nothing (b .sending) g S K mine h z) (λ t k. quiet-over)
+
+    read-closed : (l : Layout) (crc right : Bool) (reply : Reply) → Good b g S K (readClosed l b crc right reply)
+    unfolding readClosed
+    read-closed l crc right reply =
+        pick-keeps (Good b g S K) _ _ _ (λ t k. quiet _ (rests-answering reply _))
+        (λ t. pick-keeps (Good b g S K) _ _ _ (λ u k. quiet Idle rests-idle) (λ u k. quiet _ (rests-answering reply _)))
+
+    write-closed : (crc : Bool) (address count : ℕ) → Good b g S K (registersClosed b crc address count)
+    unfolding registersClosed
+    write-closed crc address count =
+        pick-keeps (Good b g S K) _ _ _ (λ t. effects _ Idle true rests-idle (λ e. refl)) (λ t k. quiet-over)
+
+    reset-closed : Good b g S K (resetClosed b)
+    unfolding resetClosed clears
+    reset-closed = pick-keeps (Good b g S K) _ _ _ (λ t k. never true refl k) (λ t k. quiet-over)
+
+    answers : (l : Layout) (reply : Reply) (sum x : ℕ) → Good b g S K (answered l b reply sum x)
+    unfolding answered answerWith registerAnswered dataAnswered
+    answers l (Status w) sum x k = quiet _ (rests-answering _ _)
+    answers l (Data left) sum x k =
+        pick-keeps (Good b g S K) _ _ _ (λ t j. quiet _ (rests-answering _ _)) (λ t j. quiet _ (rests-answering _ _)) k
+    answers l (Registers address left) sum x k = quiet _ (rests-answering _ _)
+    answers l Check sum x k = quiet Idle rests-idle
+
+    -- The command word.
+    forward-begun : (crc : Bool) (k ends : ℕ) (reads : Bool) (sum : ℕ) (blocked : Bool) → blocked ≡ false
+        → Good b g S K (forwardBegun b (Forward crc k ends reads) crc k ends reads sum blocked)
+    unfolding forwardBegun forwarded mineAfter enqueues clears asksStore pick
+    forward-begun crc k ends reads sum blocked c =
+        guard-grants (λ (r : Granted). GoesBy (b .sending) g S K (forwarded b (Forward crc k ends reads) 0 sum 0 false blocked r)) _ _ Keep _ _ blocked c
+        (λ room t u. begun-queued (b .sending) g S K crc k ends reads sum blocked c h u (not-true crc (and-l (not crc) _ (and-l _ (ltb 0 ends) t))))
+        (λ room t. begun-pending (b .sending) g S K crc k ends reads sum blocked c h)
+
+    begins : (command : Command) (sum : ℕ) → blocking (b .control .flags) ≡ false → Good b g S K (opened b command sum)
+    unfolding opened Kept InFrame
+    begins Filler sum f k = quiet Idle rests-idle
+    begins Malformed sum f k = quiet Discarding rests-discarding
+    begins (Forward crc words ends reads) sum f k = forward-begun crc words ends reads sum _ f k
+    begins (DataRead crc words) sum f k = quiet _ (λ i X Y p. (p, refl))
+    begins (RegisterWrite crc address count) sum f k = quiet _ (λ i X Y p. (p, refl))
+    begins (RegisterRead crc address count) sum f k = quiet _ (λ i X Y p. (p, refl))
+    begins SoftReset sum f k = quiet _ (λ i X Y p. (p, refl))
+
+  -- The words of a forward.
+  module _ (crc : Bool) (words ends : ℕ) (reads : Bool) (got sum mine w : ℕ) (small : w < 65536) (due : got < words) where
+    pending-word : (blocked : Bool) → blocked ≡ false → Pending crc words got mine g S K
+        → Good b g S K (forwardWord b (Forward crc words ends reads) crc words ends reads (got + 1) sum mine false blocked w)
+    unfolding forwardWord forwarded mineAfter enqueues clears asksStore pick
+    pending-word blocked c h =
+        guard-grants
+        (λ (r : Granted). GoesBy (b .sending) g S K (forwarded b (Forward crc words ends reads) (got + 1) sum mine false blocked r)) _ _
+        (Put w) _ _ blocked c
+        (λ room t u.
+        word-queued (b .sending) g S K crc words ends reads sum blocked c got w small (room refl) due mine h u
+        (not-true crc (and-l (not crc) true (and-l (not crc && true) _ t))))
+        (λ room t. word-pending (b .sending) g S K crc words ends reads sum blocked c got w small (room refl) due mine h (later crc t))
+      where
+        later : (crc : Bool) → releases crc words (got + 1) false (b .control .regs .txfflvl) (b .sending .tx .count + 1) ≡ false
+            → crc ≡ false → got + 1 ≡ words → words ≡ 0
+        later true t f e = never true refl f
+        later false t f e =
+            absurd (eqb-false (got + 1) words (or-r (leb (b .control .regs .txfflvl + 1) (b .sending .tx .count + 1)) _ t) e)
+
+    released-word : (blocked : Bool) → blocked ≡ false → Released crc words got g S K
+        → Good b g S K (forwardWord b (Forward crc words ends reads) crc words ends reads (got + 1) sum mine true blocked w)
+    unfolding forwardWord forwarded mineAfter enqueues clears asksStore pick
+    released-word blocked c h =
+        guard-grants
+        (λ (r : Granted). GoesBy (b .sending) g S K (forwarded b (Forward crc words ends reads) (got + 1) sum mine true blocked r)) _ _
+        (Put w) _ _ blocked c
+        (λ room t u. never false (and-r (not crc) false (and-l (not crc && false) _ t)) refl)
+        (λ room t. word-released (b .sending) g S K crc words ends reads sum blocked c got w small (room refl) due mine h)
+
+    forward-word : (released blocked : Bool) → Open crc words got mine released g S K → blocked ≡ false
+        → Good b g S K (forwardWord b (Forward crc words ends reads) crc words ends reads (got + 1) sum mine released blocked w)
+    unfolding Open
+    forward-word true blocked h c = released-word blocked c h
+    forward-word false blocked h c = pending-word blocked c h
+
+  -- Words that no place counts are in TX.
+  abbrev Reach : Type 0
+  Reach = (D : List (List ℕ)) (ws : List ℕ) → S ≡ concat D ++ ws → K ≡ lengths D → length ws ≤ b .sending .tx .count
+
+  -- The CRC word of a forward.
+  module _ (reach : Reach) (crc : Bool) (words ends : ℕ) (reads : Bool) (got mine : ℕ) (all : words ≤ got) where
+    nothing : (crc : Bool) → (crc && not (eqb words 0 && eqb ends 0)) ≡ false → Pending crc words got mine g S K → words ≡ 0
+    nothing true t h =
+        eqb-true words 0 (and-l (eqb words 0) (eqb ends 0) (not-false (eqb words 0 && eqb ends 0) t))
+      where
+        not-false : (a : Bool) → not a ≡ false → a ≡ true
+        not-false true e = refl
+        not-false false e = never true refl e
+    nothing false t h = h .waits refl (omega (arith, h .few))
+
+    pending-right : (blocked : Bool) → blocked ≡ false → Pending crc words got mine g S K
+        → Good b g S K (forwardClosed b crc words ends reads blocked)
+    unfolding forwardClosed
+    pending-right blocked c h =
+        guard-grants (λ (r : Granted). GoesBy (b .sending) g S K (closed b (faulted (b .control) (r .note)) (r .deed) LeaveRx (r .note))) _ _
+        Keep _ _ blocked c (λ room t u. over-queued (b .sending) g S K crc words got mine ends reads h all u)
+        (λ room t. over-pending (b .sending) g S K crc words got mine h (nothing crc t h))
+
+    released-right : (blocked : Bool) → blocked ≡ false → Released crc words got g S K
+        → Good b g S K (forwardClosed b crc words ends reads blocked)
+    unfolding forwardClosed
+    released-right blocked c h =
+        guard-grants (λ (r : Granted). GoesBy (b .sending) g S K (closed b (faulted (b .control) (r .note)) (r .deed) LeaveRx (r .note))) _ _
+        Keep _ _ blocked c (λ room t u. never crc (and-l crc _ t) (h .by-words))
+        (λ room t. over-released (b .sending) g S K crc words got h all)
+
+    pending-wrong : Pending crc words got mine g S K → Good b g S K (wrongCrc b crc mine)
+    unfolding wrongCrc
+    pending-wrong h =
+        let r : length (g .words) ≤ b .sending .tx .count = reach (g .closed) (g .words) (h .stored-are) (h .counts-are) in
+        pick-keeps (Good b g S K) _ _ _
+        (λ t k. over-back (b .sending) g S K crc words got mine h (omega (arith, h .mine-are, h .came-are, r)))
+        (λ t k. over-pending (b .sending) g S K crc words got mine h (h .waits t (omega (arith, h .few))))
+
+    released-wrong : Released crc words got g S K → Good b g S K (wrongCrc b crc mine)
+    unfolding wrongCrc
+    released-wrong h =
+        pick-keeps (Good b g S K) _ _ _ (λ t k. never crc t (h .by-words)) (λ t k. over-released (b .sending) g S K crc words got h all)
+
+    forward-closed : (released blocked right : Bool) → Open crc words got mine released g S K → blocked ≡ false
+        → Good b g S K (pick right (forwardClosed b crc words ends reads blocked) (wrongCrc b crc mine))
+    unfolding Open
+    forward-closed true blocked right h c =
+        pick-keeps (Good b g S K) _ _ _ (λ t. released-right blocked c h) (λ t. released-wrong h)
+    forward-closed false blocked right h c =
+        pick-keeps (Good b g S K) _ _ _ (λ t. pending-right blocked c h) (λ t. pending-wrong h)
+
+  -- A word in a frame, while data words are due and after.
+  module _ (got sum mine : ℕ) (released blocked : Bool) where
+    data-word : (command : Command) (w : ℕ) → w < 65536 → got < dataWords command → InFrame command got mine released blocked g S K
+        → Good b g S K (dataWord b command got sum mine released blocked w)
+    unfolding dataWord InFrame dataWords registerWord heldWord Kept
+    data-word Filler w small due h k = quiet (h .0) Idle rests-idle
+    data-word Malformed w small due h k = quiet (h .0) Idle rests-idle
+    data-word (Forward crc words ends reads) w small due h k =
+        forward-word crc words ends reads got sum mine w small due released blocked (h .0) (h .1) k
+    data-word (DataRead crc words) w small due h k = quiet (h .0) Idle rests-idle
+    data-word (RegisterWrite crc address count) w small due h k =
+        pick-keeps (Good b g S K) _ _ _ (λ t j. quiet (h .0) _ (λ i X Y p. (p, h .1)))
+        (λ t. effects (h .0) _ _ false (λ i X Y p. (p, h .1)) (λ e. never false e refl)) k
+    data-word (RegisterRead crc address count) w small due h k = quiet (h .0) Idle rests-idle
+    data-word SoftReset w small due h k = quiet (h .0) Idle rests-idle
+
+    crc-due : (l : Layout) (command : Command) (right : Bool) → Reach → dataWords command ≤ got
+        → InFrame command got mine released blocked g S K → Good b g S K (crcDue l b command mine blocked right)
+    unfolding crcDue InFrame dataWords
+    crc-due l Filler right reach all h k = quiet (h .0) Idle rests-idle
+    crc-due l Malformed right reach all h k = quiet (h .0) Idle rests-idle
+    crc-due l (Forward crc words ends reads) right reach all h k =
+        forward-closed reach crc words ends reads got mine all released blocked right (h .0) (h .1) k
+    crc-due l (DataRead crc words) right reach all h k = read-closed (h .0) l crc right (Data words) k
+    crc-due l (RegisterWrite crc address count) right reach all h k =
+        pick-keeps (Good b g S K) _ _ _ (λ t. write-closed (h .0) crc address count) (λ t. wrong-crc (h .0) crc mine (h .1)) k
+    crc-due l (RegisterRead crc address count) right reach all h k = read-closed (h .0) l crc right (Registers address count) k
+    crc-due l SoftReset right reach all h k =
+        pick-keeps (Good b g S K) _ _ _ (λ t. reset-closed (h .0)) (λ t. wrong-crc (h .0) true mine (h .1)) k
+
+  planned-in : (l : Layout) (ph : Phase) (w x : ℕ) → w < 65536 → Reach → blocking (b .control .flags) ≡ false → Kept ph g S K
+      → Good b g S K (plannedIn l b ph w x)
+  unfolding plannedIn Kept
+  planned-in l Idle w x small reach f h k = begins h (l .decode w) _ f k
+  planned-in l (Collecting command got sum mine released blocked) w x small reach f h k =
+      pick-keeps (Good b g S K) _ _ _ (λ t. data-word got _ mine released blocked command w small (ltb-true _ _ t) h)
+      (λ t. crc-due got sum mine released blocked l command _ reach (ltb-false _ _ t) h) k
+  planned-in l (Answering reply sum) w x small reach f h k = answers h l reply sum x k
+  planned-in l Discarding w x small reach f h k = quiet h Discarding rests-discarding
+
+  -- A host word.
+  pub goes-word : (l : Layout) (w x : ℕ) → w < 65536 → Reach → blocking (b .control .flags) ≡ false → Kept (b .frame .phase) g S K
+      → clears (planned l b w x .deed) ≡ false → GoesBy (b .sending) g S K (planned l b w x)
+  unfolding planned
+  goes-word l w x small reach f h k = planned-in l (b .frame .phase) w x small reach f h k
+
+  -- Chip select released, and no frame cut short.
+  pub goes-release : (ph : Phase) → Kept ph g S K → noteNumber (releasedIn b ph .note) ≢ 12 → GoesBy (b .sending) g S K (releasedIn b ph)
+  unfolding releasedIn cut Kept
+  goes-release Idle h n = quiet h Idle rests-idle
+  goes-release (Collecting command got sum mine released blocked) h n = absurd (n refl)
+  goes-release (Answering reply sum) h n = quiet h Idle rests-idle
+  goes-release Discarding h n = quiet h Idle rests-idle

@@ -1,0 +1,4 @@
+pub mod Runs
+pub mod Accepted
+pub mod Premises
+pub mod Exactly

@@ -1,0 +1,64 @@
+-- What demand 3 asks of a run: "no transmit or queue fault, no transmit clear, soft reset or second power-up, and no frame cut short". It
+-- speaks of flags, notes and deeds, never of hidden progress. Assumes nothing.
+use mathlib.Core.Path.{_≡_}
+use mathlib.Core.Bool.{Bool, true, false, not, _&&_}
+use mathlib.Core.List.{List, [], _∷_}
+use mathlib.Core.Logic.{_≢_}
+use Prim.Native.Nat.{ℕ, _<_}
+use lib.Dec.{ltb, eqb}
+use Rattle.command.specs.Layouts.{Layout}
+use Rattle.registers.specs.Registers.{blocking}
+use Rattle.state.specs.Notes.{noteNumber}
+use Rattle.host.specs.Forward.{clears}
+use Rattle.events.specs.declared.Event.{Event}
+use Rattle.events.specs.declared.Event.the-variants.{Power, Word, Release, Tick, Clock as ClockReading}
+use Rattle.order.specs.Runs.{Config, outOf, next}
+use Rattle.order.specs.Accepted.{planOf}
+
+-- words and readings are of sixteen bits
+abbrev pub Typed : Event → Type 0
+Typed (Power good) = Unit {0}
+Typed (Word w) = w < 65536
+Typed Release = Unit {0}
+Typed (Tick sin) = Unit {0}
+Typed (ClockReading reading) = reading < 65536
+
+unfoldable pub isPower : Event → Bool
+isPower (Power good) = true
+isPower (Word w) = false
+isPower Release = false
+isPower (Tick sin) = false
+isPower (ClockReading reading) = false
+
+-- note 12. 01 Notes
+abbrev pub cutShort : ℕ
+cutShort = 12
+
+-- `clears` are the deeds of a transmit clear and of a soft reset; `blocking` flags are TXFFOVF, TXFFUVF and QUEUE_OVF
+pub record Fair (l : Layout) (c : Config) (e : Event) : Type 0 where
+  pub typed : Typed e
+  pub no-power : isPower e ≡ false
+  pub no-clear : clears (planOf l c e .deed) ≡ false
+  pub no-cut : noteNumber (outOf l c e .answer .note) ≢ cutShort
+  pub no-fault : blocking (next l c e .bridge .control .flags) ≡ false
+
+abbrev pub Premises : Layout → Config → List Event → Type 0
+Premises l c [] = Unit {0}
+Premises l c (e ∷ es) = Fair l c e × Premises l (next l c e) es
+
+-- The same as a test, for runs that are computed.
+unfoldable pub typed : Event → Bool
+typed (Power good) = true
+typed (Word w) = ltb w 65536
+typed Release = true
+typed (Tick sin) = true
+typed (ClockReading reading) = ltb reading 65536
+
+unfoldable pub fair : Layout → Config → Event → Bool
+fair l c e =
+    typed e && not (isPower e) && not (clears (planOf l c e .deed)) && not (eqb (noteNumber (outOf l c e .answer .note)) cutShort)
+    && not (blocking (next l c e .bridge .control .flags))
+
+unfoldable pub premises : Layout → Config → List Event → Bool
+premises l c [] = true
+premises l c (e ∷ es) = fair l c e && premises l (next l c e) es

@@ -1,0 +1,61 @@
+-- Runs of the bridge (01 What the bridge is): a state with both stores, from one event to the next, each event lent the stores as the last
+-- one left them. Assumes nothing.
+use mathlib.Core.Path.{_≡_}
+use mathlib.Core.Bool.{Bool, true, _&&_}
+use mathlib.Core.List.{List, [], _∷_, _++_}
+use Prim.Native.Nat.{ℕ}
+use lib.Dec.{eqb}
+use Rattle.command.specs.Layouts.{Layout}
+use Rattle.state.specs.Sending.{idle}
+use Rattle.state.specs.declared.Bridge.{Bridge}
+use Rattle.state.specs.declared.Sending.{Sending}
+use Rattle.events.specs.Events.{powered}
+use Rattle.bridge.specs.Step.{step}
+use Rattle.events.specs.Turn.{Out}
+use Rattle.events.specs.declared.Event.{Event}
+use Rattle.events.specs.declared.Event.the-variants.{Power, Word, Release, Tick, Clock as ClockReading}
+
+pub record Config : Type 0 where
+  pub bridge : Bridge
+  pub tx : List ℕ
+  pub rx : List ℕ
+
+-- what an event gives there
+unfoldable pub outOf : Layout → Config → Event → Out
+outOf l c e = step l (c .bridge) (c .tx) (c .rx) e
+
+abbrev pub leftBy : Out → Config
+leftBy o = record { bridge = o .answer .state; tx = o .tx; rx = o .rx }
+
+unfoldable pub next : Layout → Config → Event → Config
+next l c e = leftBy (outOf l c e)
+
+-- the end of a run
+unfoldable pub endOf : Layout → Config → List Event → Config
+endOf l c [] = c
+endOf l c (e ∷ es) = endOf l (next l c e) es
+
+-- the line has a bit at a tick and at no other event
+unfoldable pub lineBit : Event → Bool → List Bool
+lineBit (Power good) b = []
+lineBit (Word w) b = []
+lineBit Release b = []
+lineBit (Tick sin) b = b ∷ []
+lineBit (ClockReading reading) b = []
+
+-- the SOUT bits of a run
+unfoldable pub soutOf : Layout → Config → List Event → List Bool
+soutOf l c [] = []
+soutOf l c (e ∷ es) = lineBit e (outOf l c e .answer .sout) ++ soutOf l (next l c e) es
+
+-- power-up, with whatever the stores hold
+unfoldable pub powerOn : Bool → List ℕ → List ℕ → Config
+powerOn good tx rx = record { bridge = powered good; tx = tx; rx = rx }
+
+-- "once all are sent": nothing under way, no END owed, no place waiting
+unfoldable pub allSent : Sending → Bool
+allSent s = idle (s .sender) && eqb (s .queue .begun) (s .queue .used)
+
+pub record AllSent (s : Sending) : Type 0 where
+  pub idle-sender : idle (s .sender) ≡ true
+  pub none-waits : s .queue .begun ≡ s .queue .used

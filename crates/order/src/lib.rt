@@ -1,0 +1,1 @@
+// Demand 3: theorems over runs of the bridge, and no code.

@@ -1,0 +1,51 @@
+-- Flags in their places and the decisions by number, as the proofs of the functions ask them. Assumes nothing.
+use mathlib.Core.Path.{_≡_, refl, sym, _∙_, ap, ap₂}
+use mathlib.Core.Bool.{Bool, true, false, _&&_}
+use Prim.Native.Nat.{ℕ, suc, _-_, _*_, _%_, _^_, _≤_, _<_, zero-le}
+use native.Mathlib.Nat.{pow-le-pow-right, zero-lt-suc}
+use native.Mathlib.Omega.{arith}
+use native.Mathlib.Decide.{decLe}
+use lib.ListN.{List·getD-eq-default}
+use Rattle.base.specs.Bits.{bit, flag}
+use Rattle.base.specs.Pick.{pick, pick-true, pick-false, pick-told}
+use Rattle.registers.specs.declared.Register.{Register}
+use Rattle.registers.specs.declared.Control.{Control}
+use Rattle.registers.specs.declared.Flags.{Flags}
+use Rattle.registers.specs.declared.Written.{Written}
+use Rattle.registers.specs.declared.Effect.the-variants.{Nothing}
+use Rattle.registers.specs.Registers.{table, rowOf, row, cleared, readOf}
+use Rattle.registers.specs.Writing.{written, withFlags, writeStatus, writeMasked}
+
+-- a flag's place in a word of sixteen bits
+place-lt : (k : ℕ) → k < 16 → 2 ^ k < 65536
+place-lt k h =
+    let l : 2 ^ k ≤ 2 ^ 15 = pow-le-pow-right (zero-lt-suc 1) {i = k} {j = 15} (omega arith) in
+    omega arith
+
+pub flag-up : (k : ℕ) (b : Bool) → k < 16 → b ≡ true → 1 * 2 ^ k % 65536 ≡ flag k b
+unfolding flag
+flag-up k b h e = let l : 2 ^ k < 65536 = place-lt k h in rw e (omega arith)
+
+pub flag-down : (k : ℕ) (b : Bool) → b ≡ false → 0 ≡ flag k b
+unfolding flag
+flag-down k b e = rw e refl
+
+past : {n : ℕ} (k : ℕ) → (n ≡ k → ⊥) → k ≤ n → suc k ≤ n
+past k h p = omega arith
+
+module _ (c : Control) (t r a : ℕ) where
+  -- an arm knows the number
+  pub to-read : (k x : ℕ) → a ≡ k → x ≡ readOf c t r k → x ≡ readOf c t r a
+  to-read k x e f = f ∙ ap (λ (n : ℕ). readOf c t r n) (sym e)
+
+  beyond : 11 ≤ a → 0 ≡ readOf c t r a
+  unfolding readOf
+  beyond h = let e : a ≡ suc (suc (suc (suc (suc (suc (suc (suc (suc (suc (suc (a - 11))))))))))) = omega arith in to-read _ 0 e refl
+
+  -- the last arm knows the numbers that it is not
+  pub to-none : (a ≡ 0 → ⊥) → (a ≡ 1 → ⊥) → (a ≡ 2 → ⊥) → (a ≡ 3 → ⊥) → (a ≡ 4 → ⊥) → (a ≡ 5 → ⊥) → (a ≡ 6 → ⊥) → (a ≡ 7 → ⊥)
+      → (a ≡ 8 → ⊥) → (a ≡ 9 → ⊥) → (a ≡ 10 → ⊥) → 0 ≡ readOf c t r a
+  to-none h0 h1 h2 h3 h4 h5 h6 h7 h8 h9 h10 =
+      beyond
+      (past 10 h10 (past 9 h9 (past 8 h8 (past 7 h7 (past 6 h6 (past 5 h5 (past 4 h4 (past 3 h3 (past 2 h2 (past 1 h1 (past 0 h0
+      zero-le)))))))))))

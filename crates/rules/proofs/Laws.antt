@@ -1,0 +1,105 @@
+-- Laws of the definitions, in the form in which the functions' proofs ask them. Assumes nothing.
+use mathlib.Core.Path.{_≡_, refl, _∙_}
+use mathlib.Core.Bool.{Bool, true, false, not, _&&_}
+use mathlib.Core.List.{List, [], _∷_}
+use Prim.Native.Nat.{ℕ, zero, suc, _+_, _*_, _-_, _≤_, _<_}
+use native.Mathlib.Numerals.{add-one}
+use native.Mathlib.Omega.{arith}
+use lib.ListN.{length, take, drop, getD, drop-of-length-le, List·getD-eq-default}
+use lib.Seq.{drop-cons, take-nil}
+use Rattle.base.specs.Pick.{pick-true, pick-false}
+use Rattle.command.specs.declared.Command.{Command}
+use Rattle.line.specs.declared.Ear.{Ear}
+use Rattle.state.specs.declared.Reply.{Reply}
+use Rattle.state.specs.declared.Phase.{Phase}
+use Rattle.state.specs.declared.Place.{Place}
+use Rattle.state.specs.declared.Queue.{Queue}
+use Rattle.state.specs.Queue.{noPlace, placeAt, waiting, wordsOf}
+use Rattle.state.specs.Frame.{dataWords, owedBy, mineOf, toCome, collectSound, replySound, phaseSound}
+use Rattle.rules.specs.Sound.{earSound}
+
+-- an arm knows the constructor
+pub to-collect : (v w : Command) (got mine : ℕ) (released blocked x : Bool) → v ≡ w → x ≡ collectSound w got mine released blocked
+    → x ≡ collectSound v got mine released blocked
+to-collect v w got mine released blocked x h e = rw h e
+
+pub to-reply : (v w : Reply) (x : Bool) → v ≡ w → x ≡ replySound w → x ≡ replySound v
+to-reply v w x h e = rw h e
+
+pub to-phase : (v w : Phase) (x : Bool) → v ≡ w → x ≡ phaseSound w → x ≡ phaseSound v
+to-phase v w x h e = rw h e
+
+pub to-mine : (v w : Phase) (x : ℕ) → v ≡ w → x ≡ mineOf w → x ≡ mineOf v
+to-mine v w x h e = rw h e
+
+pub to-due : (v w : Phase) (x : ℕ) → v ≡ w → x ≡ toCome w → x ≡ toCome v
+to-due v w x h e = rw h e
+
+pub to-ear : (v w : Ear) (x : Bool) → v ≡ w → x ≡ earSound w → x ≡ earSound v
+to-ear v w x h e = rw h e
+
+-- a function's answer as the last of some tests
+pub and-told : (a s t : Bool) → s ≡ t → (a && s) ≡ (a && t)
+and-told a s t h = rw h
+
+-- what a forward owes, by the tests
+module _ (command : Command) (got words : ℕ) (released blocked : Bool) (w : words ≡ dataWords command) where
+  pub owes : (released && not blocked) ≡ true → words - got ≡ owedBy command got released blocked
+  unfolding owedBy
+  owes h = pick-true _ _ _ _ h (rw w)
+
+  pub owes-none : (released && not blocked) ≡ true → words ≤ got → 0 ≡ owedBy command got released blocked
+  owes-none h l = let z : 0 ≡ words - got = omega arith in z ∙ owes h
+
+  pub owes-not : (released && not blocked) ≡ false → 0 ≡ owedBy command got released blocked
+  unfolding owedBy
+  owes-not h = pick-false _ _ _ _ h refl
+
+-- past the last place
+pub past-last : (q : Queue) (i : ℕ) → length (q .places) ≡ 8 → 8 ≤ i → 0 ≡ placeAt q i .words
+unfolding noPlace
+past-last q i n h = let l : length (q .places) ≤ i = omega arith in rw (List·getD-eq-default (q .places) noPlace l)
+
+-- the words of the places from i on, below used
+abbrev pub from : Queue → ℕ → ℕ
+from q i = wordsOf (take (q .used - i) (drop i (q .places)))
+
+-- the sum so far, with the places still to count, is that of all that wait
+pub record Summed (q : Queue) (sum i : ℕ) : Type 0 where
+  pub long : length (q .places) ≡ 8
+  pub most : sum ≤ 65535 * i
+  pub small : sum ≤ 524280
+  pub rest : sum + from q i ≡ wordsOf (waiting q)
+
+pub none-summed : (q : Queue) → length (q .places) ≡ 8 → Summed q 0 (q .begun)
+unfolding waiting
+none-summed q l = record { long = l; most = omega arith; small = omega arith; rest = omega arith }
+
+taken-one : (n : ℕ) (p : Place) (ps : List Place) → 0 < n → wordsOf (take n (p ∷ ps)) ≡ p .words + wordsOf (take (n - 1) ps)
+unfolding wordsOf
+taken-one zero p ps h = absurd (omega arith)
+taken-one (suc n) p ps h = let e : suc n - 1 ≡ n = omega arith in rw e
+
+pub from-one : (q : Queue) (i : ℕ) → i < length (q .places) → i < q .used → from q i ≡ placeAt q i .words + from q (i + 1)
+from-one q i l h =
+    let e : q .used - i - 1 ≡ q .used - (i + 1) = omega arith in
+    rw (drop-cons (q .places) i noPlace l)
+    (taken-one (q .used - i) (placeAt q i) (drop (suc i) (q .places)) (omega arith) ∙ rw (e, add-one))
+
+module _ (q : Queue) (sum i : ℕ) (v : Summed q sum i) where
+  pub one-summed : (w used : ℕ) → w ≡ placeAt q i .words → w < 65536 → i < 8 → used ≡ q .used → i < used → Summed q (sum + w) (i + 1)
+  one-summed w used e m l u h =
+      let k : i < length (q .places) = omega (arith, v .long) in
+      let g : i < q .used = omega arith in
+      record { long = v .long; most = omega arith; small = omega arith; rest = omega (arith, from-one q i k g) }
+
+  pub all-summed : (used : ℕ) → used ≡ q .used → used ≤ i → sum ≡ wordsOf (waiting q)
+  unfolding wordsOf
+  all-summed used u h = let z : q .used - i ≡ 0 = omega arith in let o : from q i ≡ 0 = rw z in omega (arith, v .rest)
+
+  pub past-summed : 8 ≤ i → sum ≡ wordsOf (waiting q)
+  unfolding wordsOf
+  past-summed h =
+      let k : length (q .places) ≤ i = omega (arith, v .long) in
+      let o : from q i ≡ 0 = rw (drop-of-length-le (q .places) k, take-nil) in
+      omega (arith, v .rest)

@@ -1,0 +1,58 @@
+-- The record rules (01 Notes, note 2: "ranges and sums"): what makes each step well defined. docs/RECORD-RULES.md says what each is for.
+use mathlib.Core.Bool.{Bool, true, false, _&&_}
+use Prim.Native.Nat.{ℕ, _+_, _-_}
+use lib.Dec.{ltb, leb, eqb}
+use Rattle.base.specs.Pick.{pick}
+use Rattle.line.specs.Format.{pieceLength}
+use Rattle.line.specs.declared.Ear.{Ear}
+use Rattle.line.specs.declared.Ear.the-variants.{Quiet, Group, Lost}
+use Rattle.registers.specs.Registers.{regsSound}
+use Rattle.state.specs.Queue.{placeAt, waiting, wordsOf}
+use Rattle.state.specs.Frame.{mineOf, toCome, phaseSound}
+use Rattle.state.specs.declared.Ring.{Ring}
+use Rattle.state.specs.declared.Place.{Place}
+use Rattle.state.specs.declared.Queue.{Queue}
+use Rattle.state.specs.declared.Sender.{Sender}
+use Rattle.state.specs.declared.Sending.{Sending}
+use Rattle.state.specs.declared.Phase.{Phase}
+use Rattle.state.specs.declared.Bridge.{Bridge}
+
+-- a ring of so many cells
+abbrev pub ringSound : ℕ → Ring → Bool
+ringSound size r = ltb (r .head) size && leb (r .count) size
+
+-- a place is one that some command word makes
+abbrev pub placeSound : Place → Bool
+placeSound p = leb (p .words) 4096 && leb (p .ends) 127
+
+abbrev pub placesSound : Queue → Bool
+placesSound q =
+    placeSound (placeAt q 0) && placeSound (placeAt q 1) && placeSound (placeAt q 2) && placeSound (placeAt q 3)
+    && placeSound (placeAt q 4) && placeSound (placeAt q 5) && placeSound (placeAt q 6) && placeSound (placeAt q 7)
+
+abbrev pub queueSound : Queue → Bool
+queueSound q = leb (q .begun) (q .used) && leb (q .used) 8 && placesSound q
+
+abbrev pub senderSound : Sender → Bool
+senderSound s = leb (s .gone) (pieceLength (s .piece)) && leb (s .left) 4096 && leb (s .ends) 128
+
+unfoldable pub earSound : Ear → Bool
+earSound Quiet = true
+earSound (Group value bits ones) = leb bits 17 && ltb ones 18
+earSound (Lost ones) = ltb ones 18
+
+-- what the youngest place has still to take from TX
+abbrev pub lastLeft : Sending → ℕ
+lastLeft s = pick (ltb (s .queue .begun) (s .queue .used)) (placeAt (s .queue) (s .queue .used - 1) .words) (s .sender .left)
+
+-- The sum that keeps every word with its command: what TX holds, with what an open forward has still to bring for the place it queued, is
+-- what the places have still to take, with the open forward's own words. What is still to come is for the youngest place.
+abbrev pub ledger : Sending → Phase → Bool
+ledger s p =
+    eqb (s .tx .count + toCome p) (s .sender .left + wordsOf (waiting (s .queue)) + mineOf p) && leb (toCome p) (lastLeft s)
+
+abbrev pub sound : Bridge → Bool
+sound b =
+    ringSound 512 (b .sending .tx) && ringSound 256 (b .receiving .rx) && regsSound (b .control .regs) && queueSound (b .sending .queue)
+    && senderSound (b .sending .sender) && earSound (b .receiving .reader .ear) && phaseSound (b .frame .phase)
+    && ledger (b .sending) (b .frame .phase)

@@ -1,0 +1,31 @@
+-- Laws of the script's definitions, as the functions' proofs ask them. Assumes nothing.
+use mathlib.Core.Path.{_≡_, refl, sym, _∙_, ap}
+use mathlib.Core.Bool.{Bool, true, false}
+use Prim.Native.Nat.{ℕ, suc, _-_, _≤_, zero-le}
+use native.Mathlib.Omega.{arith}
+use Rattle.script.specs.declared.Record.{Record}
+use Rattle.script.specs.declared.Record.the-variants.{Bad}
+use Rattle.script.specs.Script.{recordOf, sign}
+
+-- an arm knows the kind
+pub to-kind : (kind value k : ℕ) (x : Record) → kind ≡ k → x ≡ recordOf k value → x ≡ recordOf kind value
+to-kind kind value k x e f = f ∙ ap (λ (n : ℕ). recordOf n value) (sym e)
+
+past : {n : ℕ} (k : ℕ) → (n ≡ k → ⊥) → k ≤ n → suc k ≤ n
+past k h p = omega arith
+
+beyond : (kind value : ℕ) → 5 ≤ kind → Bad ≡ recordOf kind value
+unfolding recordOf
+beyond kind value h = let e : kind ≡ suc (suc (suc (suc (suc (kind - 5))))) = omega arith in to-kind kind value _ Bad e refl
+
+pub to-bad : (kind value : ℕ) → (kind ≡ 0 → ⊥) → (kind ≡ 1 → ⊥) → (kind ≡ 2 → ⊥) → (kind ≡ 3 → ⊥) → (kind ≡ 4 → ⊥) → Bad ≡ recordOf kind value
+to-bad kind value h0 h1 h2 h3 h4 = beyond kind value (past 4 h4 (past 3 h3 (past 2 h2 (past 1 h1 (past 0 h0 zero-le)))))
+
+-- a bit's sign
+pub sign-one : (b : Bool) → b ≡ true → 0x31 ≡ sign b
+unfolding sign
+sign-one b e = rw e
+
+pub sign-zero : (b : Bool) → b ≡ false → 0x30 ≡ sign b
+unfolding sign
+sign-zero b e = rw e

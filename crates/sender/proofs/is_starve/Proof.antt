@@ -1,0 +1,73 @@
+use borrow.Author.Needs.{needs}
+use Rattle.sender.specs.Sender.{isStarve}
+use Rattle.sender.proofs.Laws.{to-starve}
+use Rattle.sender.proofs.is_starve.Statement.{statement}
+use Rattle.sender.proofs.is_starve.Tie as tie
+
+enum-told : tie.Need-enum-told
+enum-told c = search needs
+
+enum-told-2 : tie.Need-enum-told-2
+enum-told-2 c = search needs
+
+enum-told-3 : tie.Need-enum-told-3
+enum-told-3 c = search needs
+
+enum-told-4 : tie.Need-enum-told-4
+enum-told-4 c = search needs
+
+enum-told-5 : tie.Need-enum-told-5
+enum-told-5 c = search needs
+
+enum-told-6 : tie.Need-enum-told-6
+enum-told-6 c = search needs
+
+enum-told-7 : tie.Need-enum-told-7
+enum-told-7 c = search needs
+
+returns : tie.Need-returns
+unfolding isStarve
+returns c = search (needs, to-starve)
+
+returns-2 : tie.Need-returns-2
+unfolding isStarve
+returns-2 c = search (needs, to-starve)
+
+returns-3 : tie.Need-returns-3
+unfolding isStarve
+returns-3 c = search (needs, to-starve)
+
+returns-4 : tie.Need-returns-4
+unfolding isStarve
+returns-4 c = search (needs, to-starve)
+
+returns-5 : tie.Need-returns-5
+unfolding isStarve
+returns-5 c = search (needs, to-starve)
+
+returns-6 : tie.Need-returns-6
+unfolding isStarve
+returns-6 c = search (needs, to-starve)
+
+returns-7 : tie.Need-returns-7
+unfolding isStarve
+returns-7 c = search (needs, to-starve)
+
+pub is-starve-spec : {M : Type 1} → statement M
+is-starve-spec =
+    tie.close
+    (tie.spec
+    enum-told
+    enum-told-2
+    enum-told-3
+    enum-told-4
+    enum-told-5
+    enum-told-6
+    enum-told-7
+    returns
+    returns-2
+    returns-3
+    returns-4
+    returns-5
+    returns-6
+    returns-7)

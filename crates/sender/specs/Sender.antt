@@ -1,0 +1,156 @@
+-- What a tick sends (01 The line). Assumes nothing.
+use mathlib.Core.Bool.{Bool, true, false, not, _&&_, _||_}
+use Prim.Native.Nat.{ℕ, _+_, _-_}
+use lib.Dec.{ltb, leb, eqb}
+use Rattle.base.specs.Pick.{pick}
+use Rattle.crc16.specs.Crc.{crcWord}
+use Rattle.line.specs.Format.{pieceLength, pieceBit}
+use Rattle.line.specs.declared.Piece.{Piece}
+use Rattle.line.specs.declared.Piece.the-variants.{Pause, StartBit, WordPiece, EndPiece}
+use Rattle.registers.specs.Registers.{isNormal, blocking}
+use Rattle.registers.specs.declared.Control.{Control}
+use Rattle.state.specs.Rings.{txSize, popped}
+use Rattle.state.specs.Queue.{placeAt, withPlace, begunOne, underWay, returned}
+use Rattle.state.specs.Sending.{idle}
+use Rattle.state.specs.declared.Place.{Place}
+use Rattle.state.specs.declared.Queue.{Queue}
+use Rattle.state.specs.declared.Returned.{Returned}
+use Rattle.state.specs.declared.Sender.{Sender}
+use Rattle.state.specs.declared.Sending.{Sending}
+use Rattle.sender.specs.declared.Next.{Next}
+use Rattle.sender.specs.declared.Next.the-variants.{GoOn, LoadWord, Starve, LoadEnd, StartWords, StartEnds, Stay}
+use Rattle.sender.specs.declared.Sent.{Sent}
+
+-- "A tick that finds NORMAL, POR clear, no blocking flag": what the registers say of a start
+abbrev pub mayStart : Control → Bool
+mayStart c = isNormal (c .mode) && not (c .flags .por) && not (blocking (c .flags))
+
+-- the piece under way goes on; then this command's words, and its ENDs; then, the sender idle, "the oldest place not yet begun"
+unfoldable pub choose : Sending → Bool → Next
+choose s may =
+    pick (ltb (s .sender .gone) (pieceLength (s .sender .piece))) GoOn
+    (pick (ltb 0 (s .sender .left))
+    (pick (ltb 0 (s .tx .count)) LoadWord Starve)
+    (pick (ltb 0 (s .sender .ends)) LoadEnd
+    (pick may
+    (pick (ltb (s .queue .begun) (s .queue .used)) (pick (ltb 0 (placeAt (s .queue) (s .queue .begun) .words)) StartWords StartEnds) Stay)
+    Stay)))
+
+-- the bit that goes out; w is the oldest word of TX
+unfoldable pub bitSent : Next → Sender → ℕ → Bool
+bitSent GoOn s w = pieceBit (s .piece) (s .gone)
+bitSent LoadWord s w = pieceBit (WordPiece w) 0
+bitSent Starve s w = true
+bitSent LoadEnd s w = true
+bitSent StartWords s w = false
+bitSent StartEnds s w = true
+bitSent Stay s w = true
+
+-- "If the first sent word is 0xAA00 to 0xAA0F or 0xAAF0". VSYNC is 0xAAF0; the FC writes are the sixteen from 0xAA00. 001 7.3.2
+abbrev pub isHead : ℕ → Bool
+isHead w = (leb 0xAA00 w && leb w 0xAA0F) || eqb w 0xAAF0
+
+-- a word sent, in the place's CRC; the command's first says whether the CRCs are compared
+unfoldable pub wordSent : Place → ℕ → ℕ → Place
+wordSent p left w = record {
+  words = p .words;
+  ends = p .ends;
+  store = p .store;
+  compare = pick (eqb left (p .words)) (isHead w) (p .compare);
+  damaged = p .damaged;
+  sent = p .sent;
+  read = p .read;
+  «crc_sent» = crcWord (p .«crc_sent») w;
+  «crc_read» = p .«crc_read»;
+}
+
+unfoldable pub queueSent : Queue → ℕ → ℕ → Queue
+queueSent q left w =
+    pick (ltb 0 (q .begun)) (withPlace q (q .begun - 1) (wordSent (placeAt q (q .begun - 1)) left w)) q
+
+-- "The sender takes a word from TX at that word's first bit." "TXFFUVF; this tick's 1 begins one END, which ends the command"
+unfoldable pub senderAfter : Next → Sending → ℕ → Sender
+senderAfter GoOn s w = record { piece = s .sender .piece; gone = s .sender .gone + 1; left = s .sender .left; ends = s .sender .ends }
+senderAfter LoadWord s w = record { piece = WordPiece w; gone = 1; left = s .sender .left - 1; ends = s .sender .ends }
+senderAfter Starve s w = record { piece = EndPiece; gone = 1; left = 0; ends = 0 }
+senderAfter LoadEnd s w = record { piece = EndPiece; gone = 1; left = 0; ends = s .sender .ends - 1 }
+senderAfter StartWords s w = record {
+  piece = StartBit;
+  gone = 1;
+  left = placeAt (s .queue) (s .queue .begun) .words;
+  ends = placeAt (s .queue) (s .queue .begun) .ends + 1;
+}
+senderAfter StartEnds s w = record {
+  piece = EndPiece;
+  gone = 1;
+  left = 0;
+  ends = placeAt (s .queue) (s .queue .begun) .ends - 1;
+}
+senderAfter Stay s w = record { piece = Pause; gone = 0; left = 0; ends = 0 }
+
+unfoldable pub advanced : Next → Sending → ℕ → Sending
+advanced GoOn s w = record { tx = s .tx; queue = s .queue; sender = senderAfter GoOn s w }
+advanced LoadWord s w = record {
+  tx = popped txSize (s .tx);
+  queue = queueSent (s .queue) (s .sender .left) w;
+  sender = senderAfter LoadWord s w;
+}
+advanced Starve s w = record { tx = s .tx; queue = s .queue; sender = senderAfter Starve s w }
+advanced LoadEnd s w = record { tx = s .tx; queue = s .queue; sender = senderAfter LoadEnd s w }
+advanced StartWords s w = record { tx = s .tx; queue = begunOne (s .queue); sender = senderAfter StartWords s w }
+advanced StartEnds s w = record { tx = s .tx; queue = begunOne (s .queue); sender = senderAfter StartEnds s w }
+advanced Stay s w = record { tx = s .tx; queue = s .queue; sender = senderAfter Stay s w }
+
+unfoldable pub placeSent : Place → Place
+placeSent p = record {
+  words = p .words;
+  ends = p .ends;
+  store = p .store;
+  compare = p .compare;
+  damaged = p .damaged;
+  sent = true;
+  read = p .read;
+  «crc_sent» = p .«crc_sent»;
+  «crc_read» = p .«crc_read»;
+}
+
+-- "A command with extra ENDs is sent with the last bit of the last extra END": the sender is idle again, and its place is sent
+unfoldable pub finished : Sending → Returned
+finished s =
+    pick (idle (s .sender) && underWay (s .queue))
+    (returned (s .queue) (s .queue .begun - 1) (placeSent (placeAt (s .queue) (s .queue .begun - 1))))
+    (record { queue = s .queue; differs = false })
+
+unfoldable pub isStarve : Next → Bool
+isStarve GoOn = false
+isStarve LoadWord = false
+isStarve Starve = true
+isStarve LoadEnd = false
+isStarve StartWords = false
+isStarve StartEnds = false
+isStarve Stay = false
+
+unfoldable pub isStart : Next → Bool
+isStart GoOn = false
+isStart LoadWord = false
+isStart Starve = false
+isStart LoadEnd = false
+isStart StartWords = true
+isStart StartEnds = false
+isStart Stay = false
+
+unfoldable pub sentBy : Next → Sending → ℕ → Sent
+sentBy n s w = record {
+  sending = record {
+    tx = advanced n s w .tx;
+    queue = finished (advanced n s w) .queue;
+    sender = advanced n s w .sender;
+  };
+  sout = bitSent n (s .sender) w;
+  starved = isStarve n;
+  started = isStart n;
+  differs = finished (advanced n s w) .differs;
+}
+
+unfoldable pub tickSender : Sending → Bool → ℕ → Sent
+tickSender s may w = sentBy (choose s may) s w

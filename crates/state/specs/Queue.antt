@@ -1,0 +1,111 @@
+-- The queue of eight places (01 The line, "The queue has eight places (ours)"). Assumes nothing.
+use mathlib.Core.Bool.{Bool, true, false, not, _&&_, _||_}
+use mathlib.Core.List.{List, [], _∷_}
+use Prim.Native.Nat.{ℕ, suc, _+_, _-_}
+use lib.Dec.{ltb, leb, eqb}
+use lib.ListN.{take, drop, getD, set}
+use Rattle.base.specs.Pick.{pick}
+use Rattle.crc16.specs.Crc.{start, crcWord}
+use Rattle.state.specs.declared.Place.{Place}
+use Rattle.state.specs.declared.Queue.{Queue}
+use Rattle.state.specs.declared.Returned.{Returned}
+
+-- 01 The line (ours)
+abbrev pub places : ℕ
+places = 8
+
+unfoldable pub noPlace : Place
+noPlace = record {
+  words = 0;
+  ends = 0;
+  store = false;
+  compare = false;
+  damaged = false;
+  sent = false;
+  read = false;
+  «crc_sent» = 0;
+  «crc_read» = 0;
+}
+
+-- a command as it is queued: nothing sent, nothing read
+unfoldable pub newPlace : ℕ → ℕ → Bool → Place
+newPlace words ends store = record {
+  words = words;
+  ends = ends;
+  store = store;
+  compare = false;
+  damaged = false;
+  sent = false;
+  read = false;
+  «crc_sent» = start;
+  «crc_read» = start;
+}
+
+abbrev pub placeAt : Queue → ℕ → Place
+placeAt q i = getD (q .places) i noPlace
+
+abbrev pub withPlace : Queue → ℕ → Place → Queue
+withPlace q i p = record { places = set (q .places) i p; used = q .used; begun = q .begun }
+
+abbrev pub queued : Queue → Place → Queue
+queued q p = record { places = set (q .places) (q .used) p; used = q .used + 1; begun = q .begun }
+
+abbrev pub begunOne : Queue → Queue
+begunOne q = record { places = q .places; used = q .used; begun = q .begun + 1 }
+
+abbrev pub emptiedQueue : Queue → Queue
+emptiedQueue q = record { places = q .places; used = 0; begun = 0 }
+
+-- the places not yet begun, oldest first
+unfoldable pub waiting : Queue → List Place
+waiting q = take (q .used - q .begun) (drop (q .begun) (q .places))
+
+-- the words that these have to send
+unfoldable pub wordsOf : List Place → ℕ
+wordsOf [] = 0
+wordsOf (p ∷ ps) = p .words + wordsOf ps
+
+-- the place under way: begun, and not yet sent
+abbrev pub underWay : Queue → Bool
+underWay q = ltb 0 (q .begun) && not (placeAt q (q .begun - 1) .sent)
+
+-- Freed: the younger places move up by one.
+unfoldable pub moved : List Place → ℕ → ℕ → Place
+moved ps i k = pick (ltb k i) (getD ps k noPlace) (getD ps (k + 1) noPlace)
+
+unfoldable pub freed : Queue → ℕ → Queue
+freed q i = record {
+  places =
+      moved (q .places) i 0
+      ∷ moved (q .places) i 1
+      ∷ moved (q .places) i 2
+      ∷ moved (q .places) i 3
+      ∷ moved (q .places) i 4
+      ∷ moved (q .places) i 5
+      ∷ moved (q .places) i 6
+      ∷ moved (q .places) i 7
+      ∷ [];
+  used = q .used - 1;
+  begun = q .begun - 1;
+}
+
+-- "the oldest place with words that has begun sending and is not yet read": its number, or the number of places begun where there is none
+unfoldable pub firstUnread : List Place → ℕ
+firstUnread [] = 0
+firstUnread (p ∷ ps) = pick (ltb 0 (p .words) && not (p .read)) 0 (firstUnread ps + 1)
+
+unfoldable pub claimed : Queue → ℕ
+claimed q = firstUnread (take (q .begun) (q .places))
+
+-- "it is freed when sent and read back, or when sent if it has no words"
+abbrev pub isDone : Place → Bool
+isDone p = p .sent && (p .read || eqb (p .words) 0)
+
+-- "the CRCs of words sent and read are compared when the place is freed", with no check error and a first word that asks for it
+abbrev pub differs : Place → Bool
+differs p = p .compare && not (p .damaged) && not (eqb (p .«crc_sent») (p .«crc_read»))
+
+-- a place with new marks: put back, or freed where it is done; and whether its CRCs differ then
+unfoldable pub returned : Queue → ℕ → Place → Returned
+returned q i p =
+    pick (isDone p) (record { queue = freed q i; differs = differs p }) (record { queue = withPlace q i p; differs = false })

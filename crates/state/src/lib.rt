@@ -1,0 +1,267 @@
+// The bridge's record (01 What the bridge is), in sub-records by the rule that changes them. Counts are narrow: the whole is below 256 bytes.
+ghost use mathlib.Core.Path.{_≡_};
+ghost use Rattle.state.specs.Notes.{noteNumber};
+ghost use Rattle.state.specs.Power.{powerUp, powerUpBad};
+
+mod deeds;
+mod places;
+
+use command::Command;
+pub use deeds::done;
+pub use deeds::is_idle;
+pub use deeds::stored;
+use line::Ear;
+use line::Piece;
+pub use places::claimed;
+pub use places::give_back;
+pub use places::is_under_way;
+pub use places::new_place;
+use registers::Control;
+use registers::Mode;
+
+// A lent store as a ring: the oldest word's cell, and how many words it holds.
+pub struct Ring {
+    pub head: u16,
+    pub count: u16,
+}
+
+// A queued command. `store`: what is read back goes to RX. `compare`: its first sent word asks for the CRCs to be compared. `damaged`: a
+// check error came while it was read back.
+pub struct Place {
+    pub words: u16,
+    pub ends: u16,
+    pub store: bool,
+    pub compare: bool,
+    pub damaged: bool,
+    pub sent: bool,
+    pub read: bool,
+    pub crc_sent: u16,
+    pub crc_read: u16,
+}
+
+// The places in use, oldest first; the first `begun` of them have begun sending.
+pub struct Queue {
+    pub places: [Place; 8],
+    pub used: u16,
+    pub begun: u16,
+}
+
+// The piece under way and its bits gone; the words still to take for this command, and the ENDs still to begin.
+pub struct Sender {
+    pub piece: Piece,
+    pub gone: u16,
+    pub left: u16,
+    pub ends: u16,
+}
+
+pub struct Sending {
+    pub tx: Ring,
+    pub queue: Queue,
+    pub sender: Sender,
+}
+
+// What the command being read does: it belongs to a place, its words go to RX, it has stored a word.
+pub struct Reader {
+    pub ear: Ear,
+    pub belongs: bool,
+    pub storing: bool,
+    pub stored: bool,
+}
+
+pub struct Receiving {
+    pub rx: Ring,
+    pub reader: Reader,
+}
+
+// What an answer has still to give. `Check` is the CRC of the words answered.
+pub enum Reply {
+    Status(u16),
+    Data(u16),
+    Registers { address: u16, left: u16 },
+    Check,
+}
+
+// A frame's phase. `got`: data words that came. `crc`: of the words so far. `mine`: words of this frame in TX that are not released.
+pub enum Phase {
+    Idle,
+    Collecting {
+        command: Command,
+        got: u16,
+        crc: u16,
+        mine: u16,
+        released: bool,
+        blocked: bool,
+    },
+    Answering {
+        reply: Reply,
+        crc: u16,
+    },
+    Discarding,
+}
+
+// The phase, and the words that REG_WR_CRC holds until its CRC word.
+pub struct Frame {
+    pub phase: Phase,
+    pub held: [u16; 11],
+}
+
+// The last clock reading, the watchdog's mark, the SIN watch with its mark, and the last SIN bit.
+pub struct Clock {
+    pub reading: u16,
+    pub mark: u16,
+    pub watching: bool,
+    pub watch_mark: u16,
+    pub sin: bool,
+}
+
+pub struct Bridge {
+    pub control: Control,
+    pub sending: Sending,
+    pub receiving: Receiving,
+    pub frame: Frame,
+    pub clock: Clock,
+}
+
+// What an event writes of a store: nothing, or a word to the ring's next cell.
+pub enum Store {
+    Keep,
+    Put(u16),
+}
+
+// What a frame does to the sending side, after the word that it stores: queue a command, take words back, a transmit clear, a soft reset.
+pub enum Deed {
+    Leave,
+    Enqueue(Place),
+    TakeBack(u16),
+    ClearAll,
+    ResetAll,
+}
+
+// The queue after a place got its marks, and whether it was freed with CRCs that differ.
+pub struct Returned {
+    pub queue: Queue,
+    pub differs: bool,
+}
+
+// The notes of 01, 0 to 15.
+pub enum Note {
+    Done,
+    WrongStores,
+    BrokenRecord,
+    MalformedWord,
+    Discarded,
+    Blocked,
+    CrcRefused,
+    CrcWrong,
+    TxFull,
+    QueueFull,
+    LineBusy,
+    ResetRefused,
+    CutShort,
+    TxEmpty,
+    RxFull,
+    RxEmpty,
+}
+
+impl Place {
+    pub const NONE: Place = Place {
+        words: 0,
+        ends: 0,
+        store: false,
+        compare: false,
+        damaged: false,
+        sent: false,
+        read: false,
+        crc_sent: 0,
+        crc_read: 0,
+    };
+}
+
+impl Bridge {
+    // With good OTP.
+    pub const POWER_UP: Bridge = Bridge {
+        control: Control::POWER_UP,
+        sending: Sending {
+            tx: Ring { head: 0, count: 0 },
+            queue: Queue {
+                places: [Place::NONE; 8],
+                used: 0,
+                begun: 0,
+            },
+            sender: Sender {
+                piece: Piece::Pause,
+                gone: 0,
+                left: 0,
+                ends: 0,
+            },
+        },
+        receiving: Receiving {
+            rx: Ring { head: 0, count: 0 },
+            reader: Reader {
+                ear: Ear::Quiet,
+                belongs: false,
+                storing: false,
+                stored: false,
+            },
+        },
+        frame: Frame {
+            phase: Phase::Idle,
+            held: [0; 11],
+        },
+        clock: Clock {
+            reading: 0,
+            mark: 0,
+            watching: false,
+            watch_mark: 0,
+            sin: true,
+        },
+    };
+
+    pub fn good() -> Bridge
+        ensures { λ r. ⌜ r ≡ powerUp ⌝ }
+    {
+        Bridge::POWER_UP
+    }
+
+    // The same in INIT, with the OTP flag.
+    pub fn bad() -> Bridge
+        ensures { λ r. ⌜ r ≡ powerUpBad ⌝ }
+    {
+        let mut flags = Control::POWER_UP.flags;
+        flags.otp = true;
+        let regs = Control::POWER_UP.regs;
+        let control = Control {
+            mode: Mode::Init,
+            drdy: true,
+            flags: flags,
+            regs: regs,
+        };
+        let mut b = Bridge::POWER_UP;
+        b.control = control;
+        b
+    }
+}
+
+// 01's number of a note.
+pub fn number(note: Note) -> u16
+    ensures { λ r. ⌜ r ≡ noteNumber note ⌝ }
+{
+    match note {
+        Note::Done => 0,
+        Note::WrongStores => 1,
+        Note::BrokenRecord => 2,
+        Note::MalformedWord => 3,
+        Note::Discarded => 4,
+        Note::Blocked => 5,
+        Note::CrcRefused => 6,
+        Note::CrcWrong => 7,
+        Note::TxFull => 8,
+        Note::QueueFull => 9,
+        Note::LineBusy => 10,
+        Note::ResetRefused => 11,
+        Note::CutShort => 12,
+        Note::TxEmpty => 13,
+        Note::RxFull => 14,
+        Note::RxEmpty => 15,
+    }
+}
