@@ -2,26 +2,22 @@
 use mathlib.Core.Path.{refl}
 use mathlib.Core.Bool.{Bool}
 use Prim.Native.Nat.{ℕ}
-use Rattle.base.specs.Pick.{pick, pick-keeps}
+use Rattle.base.specs.Pick.{pick-keeps}
 use Rattle.events.specs.Events.{powered, controlAt, clocked}
 use Rattle.host.specs.Plan.{settled}
-use Rattle.line.specs.Format.{pieceLength}
-use Rattle.registers.specs.Registers.{powerUpControl, resetRegs, table}
-use Rattle.rules.specs.Sound.{earSound}
-use Rattle.state.specs.Frame.{mineOf, toCome, phaseSound}
-use Rattle.state.specs.Queue.{noPlace, waiting, wordsOf}
-use Rattle.state.specs.Power.{powerUp, powerUpBad, badControl}
+use Rattle.rules.proofs.Facts.{power-up-sound, power-up-bad-sound}
+use Rattle.state.specs.Power.{powerUp, powerUpBad}
 use Rattle.state.specs.declared.Bridge.{Bridge}
 use Rattle.kept.proofs.Sound.{sound-facts}
 use Rattle.kept.specs.Rules.{BridgeRules}
 
 good-rules : BridgeRules powerUp
-unfolding powerUp powerUpControl resetRegs table noPlace pick pieceLength earSound phaseSound toCome mineOf waiting wordsOf
-good-rules = sound-facts powerUp refl refl
+unfolding powerUp
+good-rules = sound-facts powerUp power-up-sound refl
 
 bad-rules : BridgeRules powerUpBad
-unfolding powerUpBad badControl powerUpControl resetRegs table noPlace pick pieceLength earSound phaseSound toCome mineOf waiting wordsOf
-bad-rules = sound-facts powerUpBad refl refl
+unfolding powerUpBad
+bad-rules = sound-facts powerUpBad power-up-bad-sound refl
 
 pub power-keeps : (good : Bool) → BridgeRules (powered good)
 unfolding powered

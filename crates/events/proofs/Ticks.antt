@@ -28,7 +28,6 @@ use Rattle.kept.specs.Rules.{SendRules, BridgeRules}
 use Rattle.kept.proofs.Sender.{rules-requeued, tick-sender-keeps, tick-starved}
 use Rattle.kept.proofs.Reader.{Takes, tick-reader-keeps, tick-reader-ear}
 
--- a frame that is not released has none to bring
 -- a frame with words to bring is a forward that is released: blocked, it brings none
 pub blocked-owes-none : (p : Phase) → phaseSound p ≡ true → toCome (blockedIn p) ≡ 0
 unfolding phaseSound toCome blockedIn isForward collectSound

@@ -11,7 +11,7 @@ use Rattle.state.specs.declared.Ring.{Ring}
 use Rattle.state.specs.declared.Sending.{Sending}
 use Rattle.state.specs.declared.Store.{Store}
 use Rattle.state.specs.declared.Store.the-variants.{Keep, Put}
-use Rattle.kept.proofs.Queue.{fit-queued, eight-queued, fit-emptied, words-queued, words-emptied, last-left-queued}
+use Rattle.kept.proofs.Queue.{fit-queued, eight-queued, fit-emptied, words-queued, words-emptied, some-queued, some-emptied, last-left-queued}
 use Rattle.kept.specs.Rules.{SendRules}
 
 -- a frame that has nothing to bring and nothing in TX may be forgotten
@@ -34,6 +34,7 @@ rules-put-mine s w m r h = record {
   ends = r .ends;
   sum = omega (arith, r .sum);
   room = omega arith;
+  some = r .some;
   apart = λ z. absurd (omega arith);
 }
 
@@ -48,14 +49,15 @@ rules-put-owed s w c m r h = record {
   ends = r .ends;
   sum = omega (arith, r .sum);
   room = omega (arith, r .room);
+  some = r .some;
   apart = λ z. r .apart (omega arith);
 }
 
 -- the frame's words go to the place that it queues; what the place lacks of them is still to come
 pub rules-enqueued : (s : Sending) (p : Place) (c m : ℕ) → SendRules s 0 m → s .queue .used < 8 → p .words ≤ 4096 → p .ends ≤ 127 → m + c ≡ p .words
-    → SendRules (done s (Enqueue p)) c 0
+    → 0 < p .words + p .ends → SendRules (done s (Enqueue p)) c 0
 unfolding done
-rules-enqueued s p c m r h w e n = record {
+rules-enqueued s p c m r h w e n o = record {
   tx = r .tx;
   queue = fit-queued (s .queue) p (r .queue) h w e;
   eight = eight-queued (s .queue) p (r .eight);
@@ -64,6 +66,7 @@ rules-enqueued s p c m r h w e n = record {
   ends = r .ends;
   sum = rw (words-queued (s .queue) p (r .queue) (r .eight) h) (omega (arith, r .sum));
   room = rw (last-left-queued s p (r .queue) (r .eight) h w e) (omega arith);
+  some = some-queued (s .queue) p (r .queue) (r .eight) h (r .some) o;
   apart = λ z. refl;
 }
 
@@ -78,6 +81,7 @@ rules-taken-back s m r = record {
   ends = r .ends;
   sum = omega (arith, r .sum);
   room = omega arith;
+  some = r .some;
   apart = λ z. refl;
 }
 
@@ -98,6 +102,7 @@ rules-cleared s st c m r = record {
   ends = omega arith;
   sum = rw words-emptied (omega arith);
   room = omega arith;
+  some = some-emptied (s .queue);
   apart = λ z. refl;
 }
 
@@ -113,5 +118,6 @@ rules-reset s c m r h = record {
   ends = r .ends;
   sum = rw words-emptied (omega arith);
   room = omega arith;
+  some = some-emptied (s .queue);
   apart = λ z. refl;
 }

@@ -159,7 +159,8 @@ module _ (s : Sending) (crc : Bool) (words ends : ℕ) (reads : Bool) where
     sending =
         rules-enqueued (stored s (Put w)) (newPlace words ends reads) (words - (got + 1)) (mine + 1) (rules-put-mine s w mine r c) (unfold stored in u) (f .words-most)
         (f .ends-most)
-        (omega (arith, f .own));
+        (omega (arith, f .own))
+        (omega arith);
     phase = forward-passes crc words ends (got + 1) 0 true false (record {
       come = omega arith;
       words-most = f .words-most;
@@ -219,11 +220,11 @@ module _ (s : Sending) (crc : Bool) (words ends : ℕ) (reads : Bool) where
       in-time false false zero = refl
       in-time false false (suc n) = rw (lt-ltb 0 (suc n) (omega arith))
 
-  begun-queued : (sum : ℕ) → SendRules s 0 0 → words ≡ 0 → ends ≤ 127 → s .queue .used < 8 → crc ≡ false
+  begun-queued : (sum : ℕ) → SendRules s 0 0 → words ≡ 0 → ends ≤ 127 → 0 < ends → s .queue .used < 8 → crc ≡ false
       → Leaves s Keep (Enqueue (newPlace words ends reads)) (Collects 0 sum 0 true false)
   unfolding toCome mineOf phaseSound collectSound owedBy pick dataWords newPlace stored ringAfter
-  begun-queued sum r w e u k = record {
-    sending = rules-enqueued s (newPlace words ends reads) (words - 0) 0 r u (omega arith) e (omega arith);
+  begun-queued sum r w e n u k = record {
+    sending = rules-enqueued s (newPlace words ends reads) (words - 0) 0 r u (omega arith) e (omega arith) (omega arith);
     phase = forward-passes crc words ends 0 0 true false (record {
       come = omega arith;
       words-most = omega arith;
@@ -234,7 +235,7 @@ module _ (s : Sending) (crc : Bool) (words ends : ℕ) (reads : Bool) where
     });
   }
 
-  pub begun-goes : (sum : ℕ) (blocked t : Bool) → SendRules s 0 0 → words ≤ 4096 → ends ≤ 127 → (t ≡ true → (crc ≡ false) × (words ≡ 0))
+  pub begun-goes : (sum : ℕ) (blocked t : Bool) → SendRules s 0 0 → words ≤ 4096 → ends ≤ 127 → (t ≡ true → (crc ≡ false) × (words ≡ 0) × (0 < ends))
       → Goes 0 sum 0 false blocked (guard blocked (s .tx .count) (s .queue .used) (wish Keep t (newPlace words ends reads)))
   unfolding guard asksStore pick mineAfter enqueues clears
   begun-goes sum true true r w e p = begun-waits sum true r w e
@@ -243,7 +244,7 @@ module _ (s : Sending) (crc : Bool) (words ends : ℕ) (reads : Bool) where
       pick-keeps (Goes 0 sum 0 false false) (leb 8 (s .queue .used)) (granted Keep ClearAll QueueFull)
       (granted Keep (Enqueue (newPlace words ends reads)) Done)
       (λ u. forward-cleared Keep 0 sum 0 0 false r (omega arith) w e refl)
-      (λ u. begun-queued sum r (p refl .1) e (leb-false _ _ u) (p refl .0))
+      (λ u. begun-queued sum r (p refl .1) e (p refl .2) (leb-false _ _ u) (p refl .0))
   begun-goes sum false false r w e p = begun-waits sum false r w e
 
   -- the CRC word of one that has come whole
@@ -251,24 +252,24 @@ module _ (s : Sending) (crc : Bool) (words ends : ℕ) (reads : Bool) where
   unfolding stored done ringAfter toCome mineOf phaseSound
   closed-left mine r m = record { sending = rules-none s 0 mine r refl m; phase = refl }
 
-  closed-queued : (mine : ℕ) → SendRules s 0 mine → mine ≡ words → words ≤ 4096 → ends ≤ 127 → s .queue .used < 8
+  closed-queued : (mine : ℕ) → SendRules s 0 mine → mine ≡ words → 0 < words + ends → words ≤ 4096 → ends ≤ 127 → s .queue .used < 8
       → Leaves s Keep (Enqueue (newPlace words ends reads)) Idle
   unfolding stored ringAfter toCome mineOf phaseSound newPlace
-  closed-queued mine r m w e u = record { sending = rules-enqueued s (newPlace words ends reads) 0 mine r u w e (omega arith); phase = refl }
+  closed-queued mine r m n w e u = record { sending = rules-enqueued s (newPlace words ends reads) 0 mine r u w e (omega arith) n; phase = refl }
 
   closed-cleared : (mine : ℕ) → SendRules s 0 mine → Leaves s Keep ClearAll Idle
   unfolding toCome mineOf phaseSound
   closed-cleared mine r = record { sending = rules-cleared s Keep 0 mine r; phase = refl }
 
   pub closed-goes : (mine : ℕ) (blocked t : Bool) → SendRules s 0 mine → words ≤ 4096 → ends ≤ 127 → (blocked ≡ true → mine ≡ 0)
-      → (t ≡ false → mine ≡ 0) → (t ≡ true → blocked ≡ false → mine ≡ words)
+      → (t ≡ false → mine ≡ 0) → (t ≡ true → blocked ≡ false → mine ≡ words) → (t ≡ true → 0 < words + ends)
       → Leaves s Keep (guard blocked (s .tx .count) (s .queue .used) (wish Keep t (newPlace words ends reads)) .deed) Idle
   unfolding guard asksStore pick
-  closed-goes mine true true r w e a n m = closed-left mine r (a refl)
-  closed-goes mine true false r w e a n m = closed-left mine r (a refl)
-  closed-goes mine false true r w e a n m =
+  closed-goes mine true true r w e a n m o = closed-left mine r (a refl)
+  closed-goes mine true false r w e a n m o = closed-left mine r (a refl)
+  closed-goes mine false true r w e a n m o =
       pick-keeps (λ (g : Granted). Leaves s Keep (g .deed) Idle) (leb 8 (s .queue .used)) (granted Keep ClearAll QueueFull)
       (granted Keep (Enqueue (newPlace words ends reads)) Done)
       (λ u. closed-cleared mine r)
-      (λ u. closed-queued mine r (m refl refl) w e (leb-false _ _ u))
-  closed-goes mine false false r w e a n m = closed-left mine r (n refl)
+      (λ u. closed-queued mine r (m refl refl) (o refl) w e (leb-false _ _ u))
+  closed-goes mine false false r w e a n m o = closed-left mine r (n refl)

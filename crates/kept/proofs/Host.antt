@@ -2,7 +2,7 @@
 use mathlib.Core.Path.{_≡_, refl}
 use mathlib.Core.Bool.{Bool, true, false, not, _&&_, _||_}
 use mathlib.Core.List.{List, [], _∷_}
-use Prim.Native.Nat.{ℕ, _+_, _-_, _≤_, _<_}
+use Prim.Native.Nat.{ℕ, zero, suc, _+_, _-_, _≤_, _<_}
 use native.Mathlib.Omega.{arith}
 use lib.Dec.{ltb, leb, eqb}
 use borrow.Author.Tests.{ltb-true, ltb-false, leb-true, leb-false, eqb-true, eqb-false, not-true, not-false, lt-ltb, le-ltb, le-leb}
@@ -52,6 +52,12 @@ unreleasing true released full n m h e k = refl
 unreleasing false true full n m h e k = cc
 unreleasing false false true n m h e k = cc
 unreleasing false false false n m h e k = let d : n ≡ m → ⊥ = eqb-false n m e in lt-ltb n m (omega arith)
+
+-- a CRC word queues what has something to send
+has-some : (words ends : ℕ) → not (eqb words 0 && eqb ends 0) ≡ true → 0 < words + ends
+has-some zero zero e = never e
+has-some zero (suc ends) e = omega arith
+has-some (suc words) ends e = omega arith
 
 -- one that has come whole has nothing to bring
 whole-owes-none : (c : Command) (got : ℕ) (released blocked : Bool) → dataWords c ≤ got → owedBy c got released blocked ≡ 0
@@ -200,7 +206,7 @@ module _ (b : Bridge) (g : regsSound (b .control .regs) ≡ true) where
         begun-goes (b .sending) crc words ends reads sum (blocking (b .control .flags)) (not crc && eqb words 0 && ltb 0 ends) r
         (leb-true _ _ (and-l _ (leb ends 127) h))
         (leb-true _ _ (and-r (leb words 4096) _ h))
-        (λ t. (not-true crc (search (and-l, and-r)), eqb-true words 0 (search (and-l, and-r))));
+        (λ t. (not-true crc (search (and-l, and-r)), eqb-true words 0 (search (and-l, and-r)), ltb-true 0 ends (search (and-l, and-r))));
     regs = rw (faulted-regs (b .control)) g;
     ending = λ e. cc;
   }
@@ -274,7 +280,8 @@ module _ (b : Bridge) (g : regsSound (b .control .regs) ≡ true) where
         closed-goes (b .sending) crc words ends reads mine blocked (crc && not (eqb words 0 && eqb ends 0)) r (f .words-most) (f .ends-most)
         (blocked-has-none crc words ends got mine released blocked f)
         (unqueued-has-none crc words ends got mine released blocked f h)
-        (λ t k. queued-has-all crc words ends got mine released blocked f h (and-l _ _ t) k);
+        (λ t k. queued-has-all crc words ends got mine released blocked f h (and-l _ _ t) k)
+        (λ t. has-some words ends (and-r crc _ t));
     regs = rw (faulted-regs (b .control)) g;
     ending = λ e. refl;
   }

@@ -6,7 +6,6 @@ pub mod Sender
 pub mod Reader
 pub mod Deeds
 pub mod Doable
-pub mod HostFacts
 pub mod Forward
 pub mod Fits
 pub mod Perform

@@ -20,7 +20,7 @@ use Rattle.state.specs.declared.Queue.{Queue}
 use Rattle.state.specs.declared.Returned.{Returned}
 use Rattle.state.specs.declared.Sending.{Sending}
 use Rattle.kept.proofs.Tests.{none-left}
-use Rattle.kept.proofs.Queue.{Kept, kept-same, kept-marked, kept-returned, words-begun, fit-begun, lastOf, last-left, last-left-kept, last-left-begun, last-of-within}
+use Rattle.kept.proofs.Queue.{Kept, kept-same, kept-marked, kept-returned, words-begun, some-begun, fit-begun, lastOf, last-left, last-left-kept, last-left-begun, last-of-within}
 use Rattle.kept.specs.Rules.{SendRules}
 
 -- the facts by which a tick chooses
@@ -68,6 +68,7 @@ rules-requeued s q c m r k = record {
   ends = r .ends;
   sum = rw (k .waits) (r .sum);
   room = rw (last-left-kept s (record { tx = s .tx; queue = q; sender = s .sender }) (r .queue) (r .eight) k refl) (r .room);
+  some = rw (k .waits) (r .some);
   apart = r .apart;
 }
 
@@ -125,6 +126,7 @@ module _ (s : Sending) (w c m : ℕ) (r : SendRules s c m) where
     ends = r .ends;
     sum = r .sum;
     room = r .room;
+    some = r .some;
     apart = r .apart;
   }
 
@@ -142,6 +144,7 @@ module _ (s : Sending) (w c m : ℕ) (r : SendRules s c m) where
         sum = rw (k .waits) (omega (arith, r .sum));
         room = rw (last-left (advanced LoadWord s w) (k .fit) (k .eight), k .waits)
             (room-loaded (waiting (s .queue)) (s .tx .count) (s .sender .left) c m (h .1) (h .2) (r .sum) (room-of s c m r) (r .apart));
+        some = rw (k .waits) (r .some);
         apart = r .apart;
       }
 
@@ -156,6 +159,7 @@ module _ (s : Sending) (w c m : ℕ) (r : SendRules s c m) where
     ends = omega arith;
     sum = rw (starved-alone s c m r h .0) (omega arith);
     room = omega arith;
+    some = r .some;
     apart = λ z. refl;
   }
 
@@ -170,6 +174,7 @@ module _ (s : Sending) (w c m : ℕ) (r : SendRules s c m) where
     ends = omega (arith, r .ends);
     sum = omega (arith, r .sum);
     room = rw (last-left-kept s (advanced LoadEnd s w) (r .queue) (r .eight) (kept-same (s .queue) (r .queue) (r .eight)) (sym (h .1))) (r .room);
+    some = r .some;
     apart = r .apart;
   }
 
@@ -186,6 +191,7 @@ module _ (s : Sending) (w c m : ℕ) (r : SendRules s c m) where
         ends = omega (arith, r .queue .ends (s .queue .begun) b);
         sum = omega (arith, r .sum, words-begun (s .queue) (r .queue) (r .eight) (h .3));
         room = rw (last-left-begun s (advanced StartWords s w) (r .queue) (r .eight) (h .3) refl refl) (r .room);
+        some = some-begun (s .queue) (r .queue) (r .eight) (h .3) (r .some);
         apart = r .apart;
       }
 
@@ -202,6 +208,7 @@ module _ (s : Sending) (w c m : ℕ) (r : SendRules s c m) where
         ends = omega (arith, r .queue .ends (s .queue .begun) b);
         sum = omega (arith, r .sum, words-begun (s .queue) (r .queue) (r .eight) (h .3));
         room = rw (last-left-begun s (advanced StartEnds s w) (r .queue) (r .eight) (h .3) refl (sym (h .4))) (r .room);
+        some = some-begun (s .queue) (r .queue) (r .eight) (h .3) (r .some);
         apart = r .apart;
       }
 
@@ -216,6 +223,7 @@ module _ (s : Sending) (w c m : ℕ) (r : SendRules s c m) where
     ends = omega arith;
     sum = omega (arith, r .sum);
     room = rw (last-left-kept s (advanced Stay s w) (r .queue) (r .eight) (kept-same (s .queue) (r .queue) (r .eight)) (sym (h .1))) (r .room);
+    some = r .some;
     apart = r .apart;
   }
 

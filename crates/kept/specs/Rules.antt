@@ -5,7 +5,7 @@ use Prim.Native.Nat.{ℕ, _+_, _≤_, _<_}
 use lib.ListN.{length}
 use Rattle.line.specs.Format.{pieceLength}
 use Rattle.registers.specs.Registers.{regsSound}
-use Rattle.rules.specs.Sound.{earSound, lastLeft}
+use Rattle.rules.specs.Sound.{earSound, lastLeft, allSome}
 use Rattle.state.specs.Facts.{RingFit, QueueFit}
 use Rattle.state.specs.Frame.{mineOf, toCome, phaseSound}
 use Rattle.state.specs.Queue.{waiting, wordsOf}
@@ -22,6 +22,7 @@ pub record SendRules (s : Sending) (toCome mine : ℕ) : Type 0 where
   pub ends : s .sender .ends ≤ 128
   pub sum : s .tx .count + toCome ≡ s .sender .left + wordsOf (waiting (s .queue)) + mine
   pub room : toCome ≤ lastLeft s
+  pub some : allSome (waiting (s .queue)) ≡ true
   pub apart : 0 < toCome → mine ≡ 0
 
 pub record BridgeRules (b : Bridge) : Type 0 where

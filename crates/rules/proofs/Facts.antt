@@ -23,7 +23,7 @@ use Rattle.state.specs.declared.Sender.{Sender}
 use Rattle.state.specs.declared.Sending.{Sending}
 use Rattle.state.specs.declared.Phase.{Phase}
 use Rattle.state.specs.declared.Bridge.{Bridge}
-use Rattle.rules.specs.Sound.{ringSound, placeSound, placesSound, queueSound, senderSound, earSound, lastLeft, ledger, sound}
+use Rattle.rules.specs.Sound.{ringSound, placeSound, placesSound, queueSound, senderSound, earSound, lastLeft, ledger, allSome, sound}
 use Rattle.rules.specs.Facts.{SenderFit, Balanced, Sound}
 
 pub and-both : (a b : Bool) → a ≡ true → b ≡ true → (a && b) ≡ true
@@ -110,11 +110,12 @@ sound-facts b h = record {
   ear = search (and-l, and-r) depth 30;
   phase = search (and-l, and-r) depth 30;
   ledger = balanced (b .sending) (b .frame .phase) (search (and-l, and-r) depth 30);
+  some = search (and-l, and-r) depth 30;
 }
 
 pub sound-from : (b : Bridge) → Sound b → sound b ≡ true
 sound-from b f =
-    and-both _ _ (and-both _ _ (and-both _ _ (and-both _ _ (and-both _ _ (and-both _ _ (and-both _ _
+    and-both _ _ (and-both _ _ (and-both _ _ (and-both _ _ (and-both _ _ (and-both _ _ (and-both _ _ (and-both _ _
     (ring-from 512 (b .sending .tx) (f .tx))
     (ring-from 256 (b .receiving .rx) (f .rx)))
     (f .regs))
@@ -122,7 +123,8 @@ sound-from b f =
     (sender-from (b .sending .sender) (f .sender)))
     (f .ear))
     (f .phase))
-    (ledger-from (b .sending) (b .frame .phase) (f .ledger))
+    (ledger-from (b .sending) (b .frame .phase) (f .ledger)))
+    (f .some)
 
 pub piece-most : (p : Piece) → pieceLength p ≤ 18
 unfolding pieceLength
@@ -171,9 +173,9 @@ pub host-fit : (b : Bridge) → sound b ≡ true → HostFit b
 host-fit b h = fit-of b (sound-facts b h)
 
 pub power-up-sound : sound powerUp ≡ true
-unfolding powerUp powerUpControl powerUpFlags resetRegs table noPlace pieceLength earSound phaseSound mineOf toCome waiting wordsOf pick
+unfolding powerUp powerUpControl powerUpFlags resetRegs table noPlace pieceLength earSound phaseSound mineOf toCome waiting wordsOf allSome pick
 power-up-sound = refl
 
 pub power-up-bad-sound : sound powerUpBad ≡ true
-unfolding powerUpBad badControl powerUpControl powerUpFlags resetRegs table noPlace pieceLength earSound phaseSound mineOf toCome waiting wordsOf pick
+unfolding powerUpBad badControl powerUpControl powerUpFlags resetRegs table noPlace pieceLength earSound phaseSound mineOf toCome waiting wordsOf allSome pick
 power-up-bad-sound = refl

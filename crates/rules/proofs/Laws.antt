@@ -1,10 +1,11 @@
 -- Laws of the definitions, in the form in which the functions' proofs ask them. Assumes nothing.
-use mathlib.Core.Path.{_≡_, refl, _∙_}
+use mathlib.Core.Path.{_≡_, refl, sym, _∙_}
 use mathlib.Core.Bool.{Bool, true, false, not, _&&_}
 use mathlib.Core.List.{List, [], _∷_}
 use Prim.Native.Nat.{ℕ, zero, suc, _+_, _*_, _-_, _≤_, _<_}
 use native.Mathlib.Numerals.{add-one}
 use native.Mathlib.Omega.{arith}
+use lib.Dec.{ltb}
 use lib.ListN.{length, take, drop, getD, drop-of-length-le, List·getD-eq-default}
 use lib.Seq.{drop-cons, take-nil}
 use Rattle.base.specs.Pick.{pick-true, pick-false}
@@ -16,7 +17,7 @@ use Rattle.state.specs.declared.Place.{Place}
 use Rattle.state.specs.declared.Queue.{Queue}
 use Rattle.state.specs.Queue.{noPlace, placeAt, waiting, wordsOf}
 use Rattle.state.specs.Frame.{dataWords, owedBy, mineOf, toCome, collectSound, replySound, phaseSound}
-use Rattle.rules.specs.Sound.{earSound}
+use Rattle.rules.specs.Sound.{earSound, allSome}
 
 -- an arm knows the constructor
 pub to-collect : (v w : Command) (got mine : ℕ) (released blocked x : Bool) → v ≡ w → x ≡ collectSound w got mine released blocked
@@ -60,46 +61,88 @@ pub past-last : (q : Queue) (i : ℕ) → length (q .places) ≡ 8 → 8 ≤ i �
 unfolding noPlace
 past-last q i n h = let l : length (q .places) ≤ i = omega arith in rw (List·getD-eq-default (q .places) noPlace l)
 
--- the words of the places from i on, below used
-abbrev pub from : Queue → ℕ → ℕ
-from q i = wordsOf (take (q .used - i) (drop i (q .places)))
+-- the places from i on, below used
+abbrev pub rest : Queue → ℕ → List Place
+rest q i = take (q .used - i) (drop i (q .places))
+
+taken-one : (n : ℕ) (p : Place) (ps : List Place) → 0 < n → take n (p ∷ ps) ≡ p ∷ take (n - 1) ps
+taken-one zero p ps h = absurd (omega arith)
+taken-one (suc n) p ps h = let e : suc n - 1 ≡ n = omega arith in rw e
+
+rest-one : (q : Queue) (i : ℕ) → i < length (q .places) → i < q .used → rest q i ≡ placeAt q i ∷ rest q (i + 1)
+rest-one q i l h =
+    let e : q .used - i - 1 ≡ q .used - (i + 1) = omega arith in
+    rw (drop-cons (q .places) i noPlace l)
+    (taken-one (q .used - i) (placeAt q i) (drop (suc i) (q .places)) (omega arith) ∙ rw (e, add-one))
+
+rest-none : (q : Queue) (i : ℕ) → q .used ≤ i → rest q i ≡ []
+rest-none q i h = let z : q .used - i ≡ 0 = omega arith in rw z
+
+rest-past : (q : Queue) (i : ℕ) → length (q .places) ≤ i → rest q i ≡ []
+rest-past q i h = rw (drop-of-length-le (q .places) h, take-nil)
 
 -- the sum so far, with the places still to count, is that of all that wait
 pub record Summed (q : Queue) (sum i : ℕ) : Type 0 where
   pub long : length (q .places) ≡ 8
   pub most : sum ≤ 65535 * i
   pub small : sum ≤ 524280
-  pub rest : sum + from q i ≡ wordsOf (waiting q)
+  pub still : sum + wordsOf (rest q i) ≡ wordsOf (waiting q)
 
 pub none-summed : (q : Queue) → length (q .places) ≡ 8 → Summed q 0 (q .begun)
 unfolding waiting
-none-summed q l = record { long = l; most = omega arith; small = omega arith; rest = omega arith }
-
-taken-one : (n : ℕ) (p : Place) (ps : List Place) → 0 < n → wordsOf (take n (p ∷ ps)) ≡ p .words + wordsOf (take (n - 1) ps)
-unfolding wordsOf
-taken-one zero p ps h = absurd (omega arith)
-taken-one (suc n) p ps h = let e : suc n - 1 ≡ n = omega arith in rw e
-
-pub from-one : (q : Queue) (i : ℕ) → i < length (q .places) → i < q .used → from q i ≡ placeAt q i .words + from q (i + 1)
-from-one q i l h =
-    let e : q .used - i - 1 ≡ q .used - (i + 1) = omega arith in
-    rw (drop-cons (q .places) i noPlace l)
-    (taken-one (q .used - i) (placeAt q i) (drop (suc i) (q .places)) (omega arith) ∙ rw (e, add-one))
+none-summed q l = record { long = l; most = omega arith; small = omega arith; still = omega arith }
 
 module _ (q : Queue) (sum i : ℕ) (v : Summed q sum i) where
   pub one-summed : (w used : ℕ) → w ≡ placeAt q i .words → w < 65536 → i < 8 → used ≡ q .used → i < used → Summed q (sum + w) (i + 1)
+  unfolding wordsOf
   one-summed w used e m l u h =
       let k : i < length (q .places) = omega (arith, v .long) in
       let g : i < q .used = omega arith in
-      record { long = v .long; most = omega arith; small = omega arith; rest = omega (arith, from-one q i k g) }
+      let o : wordsOf (rest q i) ≡ placeAt q i .words + wordsOf (rest q (i + 1)) = rw (rest-one q i k g) in
+      record { long = v .long; most = omega arith; small = omega arith; still = omega (arith, v .still) }
+
+  ended : rest q i ≡ [] → sum ≡ wordsOf (waiting q)
+  unfolding wordsOf
+  ended e = let o : wordsOf (rest q i) ≡ 0 = rw e in omega (arith, v .still)
 
   pub all-summed : (used : ℕ) → used ≡ q .used → used ≤ i → sum ≡ wordsOf (waiting q)
-  unfolding wordsOf
-  all-summed used u h = let z : q .used - i ≡ 0 = omega arith in let o : from q i ≡ 0 = rw z in omega (arith, v .rest)
+  all-summed used u h = ended (rest-none q i (omega arith))
 
   pub past-summed : 8 ≤ i → sum ≡ wordsOf (waiting q)
-  unfolding wordsOf
-  past-summed h =
-      let k : length (q .places) ≤ i = omega (arith, v .long) in
-      let o : from q i ≡ 0 = rw (drop-of-length-le (q .places) k, take-nil) in
-      omega (arith, v .rest)
+  past-summed h = ended (rest-past q i (omega (arith, v .long)))
+
+-- the test so far, with that of the places still to test, is that of all that wait
+pub record Tested (q : Queue) (all : Bool) (i : ℕ) : Type 0 where
+  pub long : length (q .places) ≡ 8
+  pub still : (all && allSome (rest q i)) ≡ allSome (waiting q)
+
+pub none-tested : (q : Queue) → length (q .places) ≡ 8 → Tested q true (q .begun)
+unfolding waiting
+none-tested q l = record { long = l; still = refl }
+
+and-again : (a b c : Bool) → ((a && b) && c) ≡ (a && (b && c))
+and-again true b c = refl
+and-again false b c = refl
+
+and-end : (a : Bool) → (a && true) ≡ a
+and-end true = refl
+and-end false = refl
+
+module _ (q : Queue) (all : Bool) (i : ℕ) (v : Tested q all i) where
+  pub one-tested : (t : Bool) (used : ℕ) → t ≡ ltb 0 (placeAt q i .words + placeAt q i .ends) → i < 8 → used ≡ q .used → i < used → Tested q (all && t) (i + 1)
+  unfolding allSome
+  one-tested t used e l u h =
+      let k : i < length (q .places) = omega (arith, v .long) in
+      let g : i < q .used = omega arith in
+      let o : allSome (rest q i) ≡ (t && allSome (rest q (i + 1))) = rw (rest-one q i k g, e) in
+      record { long = v .long; still = and-again all t (allSome (rest q (i + 1))) ∙ rw o at (v .still) }
+
+  tested : rest q i ≡ [] → all ≡ allSome (waiting q)
+  unfolding allSome
+  tested e = sym (and-end all) ∙ rw e at (v .still)
+
+  pub all-tested : (used : ℕ) → used ≡ q .used → used ≤ i → all ≡ allSome (waiting q)
+  all-tested used u h = tested (rest-none q i (omega arith))
+
+  pub past-tested : 8 ≤ i → all ≡ allSome (waiting q)
+  past-tested h = tested (rest-past q i (omega (arith, v .long)))

@@ -11,7 +11,7 @@ use Rattle.state.specs.declared.Sender.{Sender}
 use Rattle.state.specs.declared.Sending.{Sending}
 use Rattle.state.specs.declared.Phase.{Phase}
 use Rattle.state.specs.declared.Bridge.{Bridge}
-use Rattle.rules.specs.Sound.{earSound, lastLeft}
+use Rattle.rules.specs.Sound.{earSound, lastLeft, allSome}
 
 pub record SenderFit (s : Sender) : Type 0 where
   pub gone : s .gone ≤ pieceLength (s .piece)
@@ -32,3 +32,4 @@ pub record Sound (b : Bridge) : Type 0 where
   pub ear : earSound (b .receiving .reader .ear) ≡ true
   pub phase : phaseSound (b .frame .phase) ≡ true
   pub ledger : Balanced (b .sending) (b .frame .phase)
+  pub some : allSome (waiting (b .sending .queue)) ≡ true

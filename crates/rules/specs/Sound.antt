@@ -1,5 +1,6 @@
 -- The record rules (01 Notes, note 2: "ranges and sums"): what makes each step well defined. docs/RECORD-RULES.md says what each is for.
 use mathlib.Core.Bool.{Bool, true, false, _&&_}
+use mathlib.Core.List.{List, [], _∷_}
 use Prim.Native.Nat.{ℕ, _+_, _-_}
 use lib.Dec.{ltb, leb, eqb}
 use Rattle.base.specs.Pick.{pick}
@@ -51,8 +52,13 @@ abbrev pub ledger : Sending → Phase → Bool
 ledger s p =
     eqb (s .tx .count + toCome p) (s .sender .left + wordsOf (waiting (s .queue)) + mineOf p) && leb (toCome p) (lastLeft s)
 
+-- "A command of no words and no ENDs queues nothing": what waits has something to send
+unfoldable pub allSome : List Place → Bool
+allSome [] = true
+allSome (p ∷ ps) = ltb 0 (p .words + p .ends) && allSome ps
+
 abbrev pub sound : Bridge → Bool
 sound b =
     ringSound 512 (b .sending .tx) && ringSound 256 (b .receiving .rx) && regsSound (b .control .regs) && queueSound (b .sending .queue)
     && senderSound (b .sending .sender) && earSound (b .receiving .reader .ear) && phaseSound (b .frame .phase)
-    && ledger (b .sending) (b .frame .phase)
+    && ledger (b .sending) (b .frame .phase) && allSome (waiting (b .sending .queue))

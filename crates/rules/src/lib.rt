@@ -1,12 +1,12 @@
 // The record rules (01 Notes, note 2), as a test. It asks nothing of the state, so sums are taken in 32 bits.
 ghost use mathlib.Core.Path.{_≡_};
 ghost use mathlib.Core.Bool.{_||_};
-ghost use Prim.Native.Nat.{_+_, _≤_};
-ghost use lib.Dec.{leb};
+ghost use Prim.Native.Nat.{_+_, _≤_, _<_};
+ghost use lib.Dec.{ltb, leb};
 ghost use Rattle.base.specs.Pick.{pick};
 ghost use Rattle.state.specs.Queue.{placeAt, waiting, wordsOf};
 ghost use Rattle.state.specs.Frame.{dataWords, mineOf, owedBy, toCome, forwardSound, collectSound, replySound, phaseSound};
-ghost use Rattle.rules.specs.Sound.{ringSound, placeSound, placesSound, queueSound, senderSound, earSound, lastLeft, ledger as ledgerOf, sound as soundOf};
+ghost use Rattle.rules.specs.Sound.{ringSound, placeSound, placesSound, queueSound, senderSound, earSound, lastLeft, ledger as ledgerOf, allSome, sound as soundOf};
 use command::Command;
 use line::Ear;
 use state::Bridge;
@@ -263,6 +263,31 @@ fn waiting_words(queue: Queue) -> u32
     sum
 }
 
+fn some_at(queue: Queue, i: u16) -> bool
+    requires { ⌜ i < 8 ⌝ }
+    ensures { λ r. ⌜ r ≡ ltb 0 (placeAt queue i .words + placeAt queue i .ends) ⌝ }
+{
+    let place = queue.places[i as usize];
+    0 < place.words as u32 + place.ends as u32
+}
+
+// Whether each place not yet begun has words or ENDs to send.
+fn waiting_some(queue: Queue) -> bool
+    ensures { λ r. ⌜ r ≡ allSome (waiting queue) ⌝ }
+{
+    let used = queue.used;
+    let mut all = true;
+    let mut i = queue.begun;
+    while i < used {
+        if 8 <= i {
+            return all;
+        }
+        all = all & some_at(queue, i);
+        i = i + 1;
+    }
+    all
+}
+
 fn last_left(sending: Sending) -> u16
     ensures { λ r. ⌜ r ≡ lastLeft sending ⌝ }
 {
@@ -301,4 +326,5 @@ pub fn sound(bridge: Bridge) -> bool
         & ear_sound(ear)
         & phase_sound(phase)
         & ledger(sending, phase)
+        & waiting_some(sending.queue)
 }

@@ -2,7 +2,7 @@
 use events::Event;
 ghost use mathlib.Core.Path.{_≡_};
 ghost use Prim.Native.Nat.{_/_, _%_};
-ghost use Rattle.script.specs.Script.{isHead, bitRecord, releaseRecord, recordOf, hexDigit, digit as digitOf, sign as signOf, lineOf};
+ghost use Rattle.script.specs.Script.{isHead, valueOf, bitRecord, releaseRecord, recordOf, hexDigit, digit as digitOf, sign as signOf, lineOf};
 ghost use Rattle.events.specs.declared.Event.the-variants.{Power, Tick};
 
 // A record of the script: an event, or none.
@@ -31,6 +31,13 @@ pub fn head(s: &[u8]) -> bool
     let d = s[3] == mark[3];
     let e = s[4] == mark[4];
     a & b & c & d & e
+}
+
+// A record's value, high byte first.
+pub fn value(high: u8, low: u8) -> u16
+    ensures { λ r. ⌜ r ≡ valueOf high low ⌝ }
+{
+    high as u16 * 256 + low as u16
 }
 
 fn power(value: u16) -> Record

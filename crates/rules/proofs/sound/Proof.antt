@@ -26,6 +26,9 @@ phase-sound-requires c κs = search needs
 ledger-requires : tie.Need-ledger-requires
 ledger-requires c κs = search needs
 
+waiting-some-requires : tie.Need-waiting-some-requires
+waiting-some-requires c κs = search needs
+
 returns : tie.Need-returns
 returns c = cc
 
@@ -41,4 +44,5 @@ sound-spec =
     ear-sound-requires
     phase-sound-requires
     ledger-requires
+    waiting-some-requires
     returns)

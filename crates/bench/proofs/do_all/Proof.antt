@@ -1,0 +1,62 @@
+use mathlib.Core.Path.{_≡_}
+use lib.ListN.{length}
+use borrow.Author.Needs.{needs}
+use Rattle.bench.proofs.do_all.Statement.{statement}
+use Rattle.bench.proofs.do_all.Tie as tie
+use Rattle.bench.proofs.do_all.Reads as reads
+use Rattle.bench.proofs.do_all.Lts as lts
+use Rattle.bench.proofs.do_some.Reads as do-some-reads
+use Rattle.state.proofs.Bridge.good.Reads as good-reads
+
+abbrev Inv-loop : tie.InvT-loop
+Inv-loop fd tx₀ rx₀ bridge₀ turns₀ tx rx bridge turns = (length tx ≡ 512) × (length rx ≡ 256)
+
+abbrev μ-loop : tie.MeasureT-loop
+μ-loop fd tx₀ rx₀ bridge₀ turns₀ tx rx bridge turns = turns
+
+good-requires : tie.Need-good-requires Inv-loop μ-loop
+good-requires c κs = search needs
+
+loop-holds : tie.Need-loop-holds Inv-loop μ-loop
+loop-holds c = search needs
+
+slice-aggregate-do-some : tie.Need-slice-aggregate-do-some Inv-loop μ-loop
+slice-aggregate-do-some c = search needs
+
+slice-aggregate-do-some-2 : tie.Need-slice-aggregate-do-some-2 Inv-loop μ-loop
+slice-aggregate-do-some-2 c = search needs
+
+do-some-requires : tie.Need-do-some-requires Inv-loop μ-loop
+do-some-requires c κs = search needs
+
+returns : tie.Need-returns Inv-loop μ-loop
+returns c = search needs
+
+sub-turns : tie.Need-sub-turns Inv-loop μ-loop
+sub-turns c = search needs
+
+loop-less : tie.Need-loop-less Inv-loop μ-loop
+loop-less c = search needs
+
+loop-again : tie.Need-loop-again Inv-loop μ-loop
+loop-again c = search needs
+
+returns-2 : tie.Need-returns-2 Inv-loop μ-loop
+returns-2 c = search needs
+
+pub do-all-spec : {M : Type 1} → statement M
+do-all-spec =
+    tie.close
+    (tie.spec
+    Inv-loop
+    μ-loop
+    good-requires
+    loop-holds
+    slice-aggregate-do-some
+    slice-aggregate-do-some-2
+    do-some-requires
+    returns
+    sub-turns
+    loop-less
+    loop-again
+    returns-2)

@@ -1,0 +1,83 @@
+-- 01 Numbers on both sides: "One word 0xAAF0 takes 36 ticks"; "No words, 3 extra ENDs: 54 ticks". Computed from the definition, with no theorem.
+use mathlib.Core.Path.{_≡_, refl}
+use mathlib.Core.Bool.{true, false}
+use mathlib.Core.List.{_∷_}
+use Prim.Native.Nat.{ℕ}
+use lib.ListN.{replicate}
+use Rattle.base.specs.Bits.{val, odd, bit, highFirst}
+use Rattle.base.specs.Pick.{pick}
+use Rattle.crc16.specs.Crc.{shift, crcBit, crcBits, crcWord}
+use Rattle.command.specs.Layouts.{ours}
+use Rattle.line.specs.Format.{checkBit, pieceLength, wordBit, pieceBit}
+use Rattle.line.specs.Reader.{hear}
+use Rattle.registers.specs.Raising.{raised}
+use Rattle.registers.specs.Registers.{blocking, isNormal, powerUpControl, table, resetRegs, cleared, powerUpFlags}
+use Rattle.registers.specs.declared.Mode.the-variants.{Normal}
+use Rattle.state.specs.Frame.{mineOf, toCome, phaseSound}
+use Rattle.state.specs.Power.{powerUp}
+use Rattle.state.specs.Queue.{noPlace, newPlace, waiting, wordsOf, moved, freed, returned}
+use Rattle.state.specs.Rings.{written}
+use Rattle.state.specs.declared.Bridge.{Bridge}
+use Rattle.state.specs.declared.Note.the-variants.{WrongStores, BrokenRecord}
+use Rattle.rules.specs.Sound.{earSound, allSome}
+use Rattle.sender.specs.Sender.{choose, bitSent, wordSent, queueSent, senderAfter, advanced, placeSent, finished, isStarve, isStart, sentBy, tickSender}
+use Rattle.reader.specs.Reader.{takenBy, tickReader}
+use Rattle.host.specs.Plan.{settled}
+use Rattle.events.specs.Events.{same, markAfter, watched, starvedFlags, flagsSent, phaseAfter, controlTicked, tickNote, tickEnds, tickHears, ticked, reacted}
+use Rattle.events.specs.Turn.{turned, turn}
+use Rattle.drain.specs.Drain.{End, runOf, drain}
+use Rattle.drain.specs.Cost.{Calm, Accepted}
+
+-- power-up with its flags cleared, and one command queued with all its words in TX
+unfoldable pub queuedOne : ℕ → ℕ → Bridge
+queuedOne words ends = record {
+  control = record { mode = Normal; drdy = true; flags = cleared powerUpFlags; regs = resetRegs };
+  sending = record {
+    tx = record { head = 0; count = words };
+    queue = record { places = newPlace words ends false ∷ replicate 7 noPlace; used = 1; begun = 0 };
+    sender = powerUp .sending .sender;
+  };
+  receiving = powerUp .receiving;
+  frame = powerUp .frame;
+  clock = powerUp .clock;
+}
+
+unfoldable pub drainedOne : ℕ → ℕ → ℕ → ℕ → End
+unfolding queuedOne val odd bit highFirst pick shift crcBit crcBits crcWord checkBit pieceLength wordBit pieceBit hear raised blocking isNormal powerUpControl table resetRegs cleared powerUpFlags mineOf toCome phaseSound powerUp noPlace newPlace waiting wordsOf moved freed returned written earSound allSome choose bitSent wordSent queueSent senderAfter advanced placeSent finished isStarve isStart sentBy tickSender takenBy tickReader settled same markAfter watched starvedFlags flagsSent phaseAfter controlTicked tickNote tickEnds tickHears ticked reacted turned turn runOf drain
+drainedOne words ends cells budget = drain ours (queuedOne words ends) (replicate cells 0xAAF0) (replicate 256 0) budget
+
+pub one-word : drainedOne 1 0 512 100 .drained .ticks ≡ 36
+unfolding drainedOne
+one-word = refl
+
+pub ends-alone : drainedOne 0 3 512 100 .drained .ticks ≡ 54
+unfolding drainedOne
+ends-alone = refl
+
+-- the budget's end
+pub cut-off : drainedOne 1 0 512 35 .drained .ticks ≡ 35
+unfolding drainedOne
+cut-off = refl
+
+-- notes 1 and 2 come first, also with budget 0: no tick is made
+pub short-store : drainedOne 1 0 511 0 .drained .note ≡ WrongStores
+unfolding drainedOne
+short-store = refl
+
+pub short-store-ticks : drainedOne 1 0 511 100 .drained .ticks ≡ 0
+unfolding drainedOne
+short-store-ticks = refl
+
+-- nothing to send waits: the record rules refuse it
+pub broken : drainedOne 0 0 512 0 .drained .note ≡ BrokenRecord
+unfolding drainedOne
+broken = refl
+
+-- the premises of the sum can be met
+pub calm : (words ends : ℕ) → Calm (queuedOne words ends)
+unfolding queuedOne cleared powerUpFlags blocking powerUp pieceLength toCome
+calm words ends = record { normal = refl; clear = refl; unblocked = refl; sender = refl; reader = refl; stored = refl }
+
+pub accepted : Accepted (queuedOne 1 0) (replicate 512 0xAAF0) (replicate 256 0)
+unfolding drainedOne
+accepted = record { tx-length = refl; rx-length = refl; rules = refl; eight = refl }

@@ -1,0 +1,4 @@
+mod Laws
+mod Ticks
+pub mod Sum
+pub mod Examples

@@ -1,0 +1,590 @@
+#!/usr/bin/env python3
+"""make_scripts.py SEED EVENTS > file.cwb
+
+Meaningful random CWB scripts for the bridge of document 01, the same for the same seed.
+The SIN bits are mostly a loop-back of SOUT, so the C model is driven through a pipe
+(`bridge_model -i`), which also tells the SOUT bit of the next tick. Nothing the model says
+decides more than SIN bits and a few waits: a script is good for any other implementation.
+"""
+import os
+import random
+import subprocess
+import sys
+from collections import deque
+
+HERE = os.path.dirname(os.path.abspath(__file__))
+POWER, WORD, RELEASE, TICK, CLOCK = range(5)
+TELLING = [0xFFFF, 0x0000, 0x7FFF, 0xFFFE, 0x8000, 0x0001, 0xFFFD, 0xAAF0, 0xAA0F]
+
+
+def crc16(words):
+    crc = 0xFFFF
+    for word in words:
+        crc ^= word
+        for _ in range(16):
+            crc = (crc << 1 ^ 0x1021) & 0xFFFF if crc & 0x8000 else crc << 1
+    return crc
+
+
+def word_bits(word):
+    bits = [word >> i & 1 for i in range(15, -1, -1)]
+    return bits + [1 - bits[-1]]
+
+
+class Done(Exception):
+    """The asked number of events is made."""
+
+
+class Bench:
+    """The model at the other end of a pipe; keeps the script."""
+
+    def __init__(self, limit):
+        path = os.path.join(HERE, "bridge_model")
+        if not os.path.exists(path):
+            subprocess.check_call(["gcc", "-std=c11", "-O2", "-o", path, path + ".c"])
+        self.proc = subprocess.Popen([path, "-i"], stdin=subprocess.PIPE,
+                                     stdout=subprocess.PIPE, bufsize=-1)
+        self.fd = self.proc.stdin.fileno()
+        self.script = bytearray(b"CWB\x00\x01")
+        os.write(self.fd, bytes(self.script))
+        self.limit, self.events = limit, 0
+        self.note, self.sdo, self.sout, self.next_sout = 0, 0xFFFF, 1, 1
+        self.blocked = False
+
+    def event(self, kind, value=0):
+        if self.events >= self.limit:
+            raise Done
+        record = bytes((kind, value >> 8, value & 255))
+        self.script += record
+        os.write(self.fd, record)
+        part = self.proc.stdout.readline().split()
+        self.note, self.sdo = int(part[2]), int(part[3], 16)
+        self.sout, self.next_sout = int(part[4]), int(part[5])
+        self.events += 1
+        self.blocked = self.blocked or self.note == 5
+
+
+class Line:
+    """Makes SIN from SOUT: loop with delay, flips, added words, stuck, its own commands."""
+
+    def __init__(self, rng):
+        self.rng = rng
+        self.set("loop", 0)
+
+    def set(self, mode, delay=0, rate=0.0):
+        self.mode, self.delay, self.rate = mode, delay, rate
+        self.fifo = deque([1] * delay)
+        self.own = deque()
+        self.run, self.pos, self.group = 18, -1, 0
+
+    def choose(self):
+        rng = self.rng
+        mode = rng.choices(["loop", "flip", "insert", "stuck1", "stuck0", "own", "noise"],
+                           [60, 12, 12, 3, 2, 8, 3])[0]
+        delay = rng.choice([0, 0, 1, 2, 17, 18, 19, rng.randint(0, 40)])
+        self.set(mode, delay, rng.choice([0.003, 0.01, 0.03]))
+
+    def follow(self, bit):
+        """True after the last bit of a group that was a word."""
+        self.run = self.run + 1 if bit else 0
+        if self.pos < 0:
+            if bit == 0:
+                self.pos, self.group = 0, 0
+            return False
+        self.pos, self.group = self.pos + 1, self.group << 1 | bit
+        if self.run >= 18:
+            self.pos = -1
+            return False
+        if self.pos < 17:
+            return False
+        word = self.group != 0x1FFFF
+        self.pos, self.group = 0, 0
+        return word
+
+    def looped(self, sout):
+        after_word = self.follow(sout)
+        if not (self.run > 18 and len(self.fifo) > self.delay):
+            self.fifo.append(sout)
+        if self.mode == "insert" and after_word and self.rng.random() < 0.3:
+            for _ in range(self.rng.choice([1, 1, 1, 2, 4])):
+                self.fifo.extend(word_bits(self.rng.choice(TELLING + [0x1234, 0xC0DE])))
+        return self.fifo.popleft() if len(self.fifo) > self.delay else 1
+
+    def own_command(self):
+        rng = self.rng
+        bits = [1] * rng.choice([0, 0, 1, 5, 30]) + [0]
+        for _ in range(rng.choice([0, 1, 1, 2, 3, 8])):
+            bits += word_bits(rng.choice(TELLING + [rng.getrandbits(16)]))
+        odd = rng.random()
+        if odd < 0.15:
+            bits += [1] * 17 + [0]
+        elif odd < 0.25:
+            bits += [0] + [1] * 16
+        elif odd < 0.35:
+            bits += [rng.getrandbits(1) for _ in range(17)]
+        self.own.extend(bits + [1] * rng.choice([16, 17, 18, 18, 18, 19, 36]))
+
+    def sin(self, sout):
+        if self.mode == "stuck1":
+            return 1
+        if self.mode == "stuck0":
+            return 0
+        if self.mode == "noise":
+            return int(self.rng.random() < 0.8)
+        if self.mode == "own":
+            if not self.own:
+                self.own_command()
+            return self.own.popleft()
+        bit = self.looped(sout)
+        if self.mode == "flip" and self.rng.random() < self.rate:
+            bit ^= 1
+        return bit
+
+
+class Host:
+    """Frames and programs of the host: generators of ('w', word), ('r',), ('t', ticks),
+    ('c', step) and ('p', good)."""
+
+    def __init__(self, rng, bench, line):
+        self.rng, self.bench, self.line = rng, bench, line
+        self.wrong, self.cut = 0.04, 0.03
+
+    def chance(self, p):
+        return self.rng.random() < p
+
+    # ---- frames ----
+    def frame(self, words, answers, wrong=None, cut=None):
+        rng = self.rng
+        if self.chance(self.cut if cut is None else cut):
+            for word in words[:rng.randint(1, len(words))]:
+                yield "w", word
+            yield ("r",)
+            return
+        crc = crc16(words)
+        if self.chance(self.wrong if wrong is None else wrong):
+            crc = rng.choice([crc ^ 1 << rng.randint(0, 15), crc ^ 0xFFFF, rng.getrandbits(16)])
+        for word in words + [crc]:
+            yield "w", word
+        more = answers if self.chance(0.9) else rng.randint(0, answers + 2)
+        for _ in range(more):
+            yield "w", 0xFFFF if self.chance(0.9) else rng.getrandbits(16)
+        if self.chance(0.75):
+            yield ("r",)
+
+    def some_words(self, count):
+        rng = self.rng
+        words = [rng.choice(TELLING + [rng.getrandbits(16)] * 6) for _ in range(count)]
+        if words and self.chance(0.6):
+            words[0] = rng.choice([0xAAF0] + [0xAA00 + rng.randint(0, 15)])
+        return words
+
+    def forward(self, number=None, count=None, ends=None, **how):
+        rng = self.rng
+        number = number or rng.randint(2, 7)
+        small = rng.choice([1, 1, 1, 2, 2, 3, 4, 8])
+        ends = rng.choice([0, 0, 0, 1, 2, 3, 9]) if ends is None else ends
+        if number <= 3:
+            count = count or small
+            command = number << 12 | count - 1
+        elif number <= 5:
+            count = rng.choice([0, 0, small, small, 31]) if count is None else count
+            command = number << 12 | ends << 5 | count
+        else:
+            count = count or rng.choice([small, small, small, 32])
+            command = number << 12 | ends << 5 | count - 1
+        yield from self.frame([command] + self.some_words(count), 2, **how)
+
+    def data_read(self, count=None, **how):
+        count = count or self.rng.choice([1, 1, 2, 3, 5, 17, self.rng.randint(1, 256)])
+        number = self.rng.choice([8, 9])
+        yield from self.frame([number << 12 | count - 1], count + 1, **how)
+
+    def reg_write(self, address, values, number=None, **how):
+        number = number or self.rng.choice([10, 11])
+        command = number << 12 | len(values) - 1 << 8 | address
+        yield from self.frame([command] + list(values), 2, **how)
+
+    def reg_read(self, address=None, count=None, **how):
+        rng = self.rng
+        address = rng.randint(0, 10) if address is None else address
+        count = count or rng.randint(1, 11 - address)
+        number = rng.choice([12, 13])
+        yield from self.frame([number << 12 | count - 1 << 8 | address], count + 1, **how)
+
+    def observe(self):
+        yield from self.reg_read(*self.rng.choice([(0, 11), (7, 4), (7, 4), (7, 1), (1, 8)]))
+
+    def soft_reset(self, **how):
+        yield from self.frame([0xE000], 2, **how)
+
+    def register_value(self, address):
+        rng = self.rng
+        any_word = rng.getrandbits(16)
+        choice = {
+            1: [0, 0, 0, 0x0001, 0x0300, 0x0A00, 0x0500, any_word & 0xFF00, 0],
+            3: [0x01FF, 0x01FF, 0, 1, 3, 0x8000, 0x81FF, 0x8003, any_word],
+            4: [0x00FF, 0, 1, 3, 0x8000, 0x80FF, 0x8002, any_word, 0x00FE],
+            5: [0, 1, 4, 5, 1, any_word],
+            6: [0, 0x0B01, any_word, 0x0800, 0x0200, 0x0100, 1],
+            7: [0x8000, 0x8000, 0xFFFF, 0x7FFF, any_word],
+        }
+        return rng.choice(choice.get(address, [any_word, 0, 0xFFFF]))
+
+    def recover(self):
+        """Chip select up, out of failsafe, flags cleared."""
+        rng = self.rng
+        yield ("r",)
+        yield from self.reg_write(5, [1, rng.choice([0, 0, 0x0B01]), 0x8000], wrong=0, cut=0)
+        yield from self.empty(0.3)
+        if self.chance(0.3):
+            level = rng.choice([0x01FF, 0x01FF, 0, 2])
+            yield from self.reg_write(3, [level, rng.choice([0xFF, 0, 2])], wrong=0, cut=0)
+        if self.chance(0.5):
+            yield from self.reg_write(1, [rng.choice([0, 0, 0x2000])], wrong=0, cut=0)
+
+    def empty(self, p):
+        """Queue and stores emptied, with chance p."""
+        if self.chance(p):
+            yield "t", 20
+            yield from self.soft_reset(wrong=0, cut=0)
+        elif self.chance(p):
+            yield from self.reg_write(3, [0x81FF], wrong=0, cut=0)
+
+    # ---- programs, one a phase ----
+    def one_frame(self):
+        rng = self.rng
+        pick = rng.choices("fdwrosm", [50, 10, 12, 8, 10, 4, 3])[0]
+        if pick == "f":
+            yield from self.forward()
+        elif pick == "d":
+            yield from self.data_read()
+        elif pick == "w":
+            yield from self.random_write()
+        elif pick == "r":
+            yield from self.reg_read()
+        elif pick == "o":
+            yield from self.observe()
+        elif pick == "s":
+            yield from self.soft_reset()
+        else:
+            yield "w", 0xFFFF
+
+    def random_write(self):
+        address = self.rng.randint(0, 10)
+        count = min(self.rng.choice([1, 1, 1, 2, 4, 11]), 11 - address)
+        yield from self.reg_write(address, [self.register_value(address + i) for i in range(count)])
+
+    def unblock(self):
+        """A host that saw note 5 clears the flags, mostly."""
+        if self.bench.blocked and self.chance(0.4):
+            self.bench.blocked = False
+            yield ("r",)
+            yield from self.reg_write(7, [0x8000], wrong=0, cut=0)
+
+    def traffic(self):
+        while True:
+            yield from self.one_frame()
+            yield from self.unblock()
+            if self.chance(0.3):
+                yield "t", self.rng.choice([1, 2, 17, 18, 36, 37, 60])
+
+    def clean_forwards(self):
+        self.wrong = self.cut = 0
+        if self.chance(0.6):
+            self.line.set("loop", self.rng.choice([0, 0, 1, self.rng.randint(0, 40)]))
+        while True:
+            number = self.rng.randint(2, 7)
+            yield from self.forward(number, self.rng.choice([None, 1, 2, 3]))
+            yield from self.unblock()
+            yield "t", self.rng.choice([0, 1, 36, 37, 55, 100])
+            if self.chance(0.2):
+                yield from self.observe()
+
+    def overflow(self):
+        rng = self.rng
+        yield from self.reg_write(3, [rng.choice([0x01FF, 0x81FF, 5])], wrong=0, cut=0)
+        if self.chance(0.4):
+            yield from self.forward(2, rng.choice([511, 512, 300]), wrong=0, cut=0)
+            yield from self.reg_read(9, 1)
+        how = {"cut": rng.choice([0, 0, 1]), "wrong": rng.choice([0, 0.3])}
+        for _ in range(2):
+            yield from self.forward(rng.choice([2, 3, 3]), rng.choice([250, 300, 512]), **how)
+        yield from self.forward(3, rng.randint(513, 560), **how)
+        yield from self.observe()
+
+    def underflow(self):
+        rng = self.rng
+        while True:
+            yield from self.empty(0.6)
+            yield from self.reg_write(3, [rng.choice([0, 0, 1])], wrong=0, cut=0)
+            number = rng.choice([3, 5, 7])
+            count = rng.randint(3, 12)
+            ends = rng.choice([0, 0, 2]) if number > 3 else 0
+            command = number << 12 | ends << 5 | (count if number == 5 else count - 1)
+            words = [command] + self.some_words(count)
+            early = rng.randint(2, 4)
+            for word in words[:early]:
+                yield "w", word
+            yield "t", 17 * early + rng.choice([-17, -16, -15, 0, 20, 40])
+            for word in words[early:]:
+                yield "w", word
+            if self.chance(0.3):
+                yield ("r",)
+            else:
+                yield "w", crc16(words)
+                yield "w", 0xFFFF
+                yield "w", 0xFFFF
+            yield "t", rng.choice([0, 10, 40])
+            yield from self.observe()
+            if self.chance(0.8):
+                yield from self.reg_write(7, [0x8000], wrong=0)
+
+    def queue(self):
+        rng = self.rng
+        self.wrong = self.cut = 0.01
+        if self.chance(0.4):
+            yield "p", 1
+        elif self.chance(0.3):
+            yield from self.reg_write(5, [4], wrong=0, cut=0)
+        ahead = rng.choice([7, 8, 8, 9, 12])
+        for i in range(ahead):
+            last = i >= 8
+            yield from self.forward(rng.choice([4, 5, 5, 3, 2, 6, 7]),
+                                    rng.choice([0, 1, 1, 2]) if last or i % 3 else 1,
+                                    rng.choice([1, 0, 2]))
+            if self.chance(0.2):
+                yield from self.observe()
+        yield from self.recover()
+        yield "t", rng.choice([40, 300, 600])
+
+    def receive_fill(self):
+        self.wrong = self.cut = 0
+        rng = self.rng
+        self.line.set("stuck1")
+        yield from self.recover()
+        yield from self.reg_write(3, [0x81FF])
+        yield "t", 40                       # sender and reader come to their END
+        yield from self.soft_reset()
+        yield from self.reg_write(7, [0x8000])
+        if self.chance(0.5):                # one command, a long answer
+            yield from self.forward(rng.choice([6, 7]), 1, 0)
+            self.line.set("own")
+            bits = [1] * 20 + [0]
+            for _ in range(rng.choice([40, 256, 257, 262, 262])):
+                bits += word_bits(rng.getrandbits(16))
+            self.line.own.extend(bits + [1] * 18)
+            yield "t", len(bits) + 18
+            yield from self.observe()
+        else:
+            self.line.set("loop", rng.choice([0, 0, 3, 25]))
+            for _ in range(rng.choice([3, 9, 9, 9])):
+                yield from self.forward(rng.choice([6, 7]), 32, rng.choice([0, 0, 1]))
+                yield "t", rng.choice([560, 600])
+                if self.chance(0.2):
+                    yield from self.observe()
+        if self.chance(0.5):
+            yield from self.data_read(rng.choice([5, 200, 255, 256]))
+
+    def registers(self):
+        while True:
+            yield from self.random_write()
+            if self.chance(0.4):
+                yield from self.reg_read()
+            if self.chance(0.3):
+                yield from self.forward(count=1)
+                yield "t", self.rng.choice([1, 20, 35, 36, 37, 50])
+
+    def resets(self):
+        while True:
+            yield from self.forward()
+            yield "t", self.rng.choice([0, 1, 18, 35, 36, 37, 80])
+            yield from self.soft_reset(wrong=self.rng.choice([0, 0, 0.5]))
+            if self.chance(0.4):
+                yield from self.observe()
+
+    def malformed(self):
+        rng = self.rng
+        bad = [0x0000, 0x1234, 0x2200, 0x2FFF, 0x8100, 0x9FFF, 0xA10A, 0xA00B, 0xB010, 0xBF00,
+               0xC0F0, 0xDB00, 0xD10A, 0xE001, 0xEFFF, 0xF000, 0xFFFE]
+        good = [0x21FF, 0xA00A, 0xAA00, 0xDA00, 0x80FF, 0xE000, 0x4000, 0x5000]
+        while True:
+            yield "w", rng.choice(bad + good[:3])
+            for _ in range(rng.choice([0, 1, 3])):
+                yield "w", rng.choice([0xFFFF, 0xE000, rng.getrandbits(16)])
+            yield ("r",)
+            if self.chance(0.5):
+                yield from self.one_frame()
+            yield from self.frame([rng.choice([0x4000, 0x5000])], 2)
+
+    def watch(self):
+        rng = self.rng
+        if self.chance(0.8):
+            self.line.set(rng.choice(["stuck1", "stuck1", "stuck0", "loop"]), rng.randint(0, 40))
+        while True:
+            yield from self.forward(count=rng.randint(1, 3), cut=0)
+            yield "t", rng.choice([1, 2, 20, 60])
+            for _ in range(rng.randint(1, 9)):
+                yield "c", rng.choice([0, 1, 1, 1, 2])
+                yield "t", rng.choice([0, 0, 1, 3])
+            if self.chance(0.4):
+                yield from self.reg_read(7, 2)
+            if self.chance(0.3):
+                yield from self.recover()
+
+    def watchdog(self):
+        rng = self.rng
+        while True:
+            limit = rng.choice([1, 2, 3, 5, 10, 255])
+            yield from self.reg_write(1, [limit << 8], wrong=0, cut=0)
+            for _ in range(rng.randint(1, 8)):
+                yield "c", rng.choice([0, 1, 1, 2, limit - 1, limit])
+                if self.chance(0.2):
+                    yield rng.choice([("w", 0xFFFF), ("r",)])
+            yield from self.reg_read(7, 1)
+            if self.chance(0.6):
+                yield from self.reg_write(5, [1])
+            yield from self.forward()
+
+    def failsafe(self):
+        rng = self.rng
+        while True:
+            for _ in range(rng.randint(1, 3)):
+                yield from self.forward()
+            yield "t", rng.choice([0, 1, 17, 19, 36, 50])
+            yield from self.reg_write(5, [rng.choice([4, 4, 5, 1])])
+            yield "t", rng.choice([1, 36, 80])
+            yield from self.one_frame()
+            yield from self.reg_write(5, [rng.choice([1, 1, 5])])
+            yield "t", rng.choice([1, 36, 80])
+            if self.chance(0.3):
+                yield from self.reg_write(7, [0x8000])
+
+    def clears(self):
+        rng = self.rng
+        while True:
+            kind = rng.choice("trbc")
+            for _ in range(rng.randint(1, 3)):
+                yield from self.forward(cut=0)
+            yield "t", rng.choice([0, 1, 5, 18, 19, 30, 35, 36, 37, 50, 70])
+            if kind == "t":
+                yield from self.reg_write(3, [rng.choice([0x81FF, 0x8000, 0x8002])])
+            elif kind == "r":
+                yield from self.reg_write(4, [rng.choice([0x80FF, 0x8000, 0x8001])])
+            elif kind == "b":
+                yield from self.reg_write(2, [rng.getrandbits(16), 0x8000, 0x8000])
+            else:
+                yield from self.cut_released()
+            yield "t", rng.choice([0, 1, 17, 18, 19, 40])
+            if self.chance(0.4):
+                yield from self.observe()
+
+    def cut_released(self):
+        """Level 0, a released forward cut with its data missing or whole."""
+        yield from self.reg_write(3, [0], wrong=0, cut=0)
+        count = self.rng.randint(2, 6)
+        words = [0x3000 | count - 1] + self.some_words(count)
+        for word in words[:self.rng.randint(2, count + 1)]:
+            yield "w", word
+            yield "t", self.rng.choice([0, 0, 5, 17])
+        yield ("r",)
+
+    def power(self):
+        while True:
+            yield "p", int(self.chance(0.7))
+            for _ in range(self.rng.randint(1, 6)):
+                yield from self.one_frame()
+            if self.chance(0.7):
+                yield from self.reg_write(7, [0x8000])
+            yield "t", self.rng.choice([5, 40, 100])
+            yield from self.observe()
+
+    def chaos(self):
+        rng = self.rng
+        while True:
+            word = rng.choice([rng.getrandbits(16), 0xFFFF, rng.randint(2, 14) << 12,
+                               rng.randint(2, 14) << 12 | rng.randint(0, 3)])
+            yield "w", word
+            if self.chance(0.15):
+                yield ("r",)
+
+
+DECK = (["traffic"] * 7 + ["clean_forwards"] * 8 + ["overflow"] * 2 + ["underflow"] * 4
+        + ["queue"] * 4 + ["receive_fill"] + ["registers"] * 3 + ["resets"] * 2
+        + ["malformed"] + ["watch"] * 3 + ["watchdog"] * 2 + ["failsafe"] * 2 + ["clears"] * 4
+        + ["power"] + ["chaos"])
+SPAN = {"clean_forwards": 900, "overflow": 1500, "receive_fill": 6500, "queue": 900, "power": 250, "chaos": 150,
+        "malformed": 250}
+
+
+class Maker:
+    def __init__(self, seed, limit):
+        self.rng = random.Random(seed)
+        self.bench = Bench(limit)
+        self.line = Line(self.rng)
+        self.reading = 0
+
+    def tick(self):
+        self.bench.event(TICK, self.line.sin(self.bench.next_sout))
+
+    def clock(self, step):
+        self.reading = (self.reading + step) & 0xFFFF
+        self.bench.event(CLOCK, self.reading)
+
+    def act(self, action):
+        kind = action[0]
+        if kind == "w":
+            self.bench.event(WORD, action[1])
+        elif kind == "r":
+            self.bench.event(RELEASE)
+        elif kind == "t":
+            for _ in range(action[1]):
+                self.tick()
+        elif kind == "c":
+            self.clock(action[1])
+        else:
+            self.bench.event(POWER, action[1])
+
+    def phase(self, name):
+        rng = self.rng
+        host = Host(rng, self.bench, self.line)
+        self.line.choose()
+        if rng.random() < 0.3:
+            self.clock(65536 - self.reading - rng.randint(1, 8))
+        if rng.random() < 0.85:
+            for action in host.recover():
+                self.act(action)
+        quiet = name in ("overflow", "queue")
+        ticks = rng.choice([0, 0, 0.02]) if quiet else rng.choice([0, 0, 0.3, 1, 3, 8])
+        clocks = rng.choice([0, 0.01, 0.1]) if name != "overflow" else 0
+        stop = self.bench.events + SPAN.get(name, rng.randint(200, 600))
+        for action in getattr(host, name)():
+            if self.bench.events >= stop:
+                return
+            while rng.random() * (1 + ticks) > 1:
+                self.tick()
+            if rng.random() < clocks:
+                self.clock(rng.choice([0, 1, 1, 1, 2, 3]))
+            self.act(action)
+
+    def run(self):
+        try:
+            while True:
+                deck = DECK[:]
+                self.rng.shuffle(deck)
+                for name in deck:
+                    self.phase(name)
+        except Done:
+            pass
+        self.bench.proc.stdin.close()
+        self.bench.proc.wait()
+        return bytes(self.bench.script)
+
+
+def main():
+    if len(sys.argv) != 3:
+        sys.exit("use: make_scripts.py SEED EVENTS > file.cwb")
+    sys.stdout.buffer.write(Maker(int(sys.argv[1]), int(sys.argv[2])).run())
+
+
+if __name__ == "__main__":
+    main()
