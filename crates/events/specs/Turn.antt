@@ -1,5 +1,5 @@
 -- One event's rule carried out on the stores (01 What the bridge is). Assumes nothing.
-use mathlib.Core.Path.{_≡_}
+use mathlib.Core.Path.{_≡_, sym, _∙_, ap}
 use mathlib.Core.Bool.{Bool, true, false}
 use mathlib.Core.List.{List}
 use Prim.Native.Nat.{ℕ}
@@ -36,3 +36,8 @@ turned b tx rx d =
 
 unfoldable pub turn : Layout → Bridge → List ℕ → List ℕ → Event → Out
 turn l b tx rx e = turned b tx rx (reacted l b e (oldest tx (b .sending .tx)) (oldest rx (b .receiving .rx)))
+
+-- two answers with their stores that satisfy one contract are the same
+pub one-outcome : (o : Out) (a b : Answer) (t u r s : List ℕ) → out a t r ≡ o → out b u s ≡ o → (a ≡ b) × ((t ≡ u) × (r ≡ s))
+one-outcome o a b t u r s p q =
+    (ap (λ (x : Out). x .answer) (p ∙ sym q), (ap (λ (x : Out). x .tx) (p ∙ sym q), ap (λ (x : Out). x .rx) (p ∙ sym q)))

@@ -45,15 +45,15 @@ fn closed(bridge: Bridge, control: Control, deed: Deed, receive: Receive, note: 
 }
 
 // Note 6 where the command is named _CRC, else note 7.
-fn wrong_crc(bridge: Bridge, crc: bool, mine: u16) -> Plan
-    ensures { λ r. ⌜ r ≡ wrongCrc bridge crc mine ⌝ }
+fn wrong_crc(bridge: Bridge, crc: bool, unreleased: u16) -> Plan
+    ensures { λ r. ⌜ r ≡ wrongCrc bridge crc unreleased ⌝ }
 {
     let flagged = raised_in(bridge.control, Flag::SpiCrc);
     if crc {
         return closed(
             bridge,
             flagged,
-            Deed::TakeBack(mine),
+            Deed::TakeBack(unreleased),
             Receive::LeaveRx,
             Note::CrcRefused,
         );

@@ -1,13 +1,15 @@
 // Forwards (01 Frames, "Forwards store data words as they come"; notes 5, 8 and 9).
 ghost use mathlib.Core.Path.{_≡_};
-ghost use mathlib.Core.Bool.{Bool, not, _&&_, _||_};
-ghost use Prim.Native.Nat.{ℕ, _+_, _<_};
+ghost use mathlib.Core.Bool.{_&&_, _||_};
+ghost use Prim.Native.Nat.{_+_, _<_};
 ghost use lib.Dec.{leb};
 ghost use Rattle.base.specs.Pick.{pick};
 ghost use Rattle.state.specs.Rings.{txSize};
-ghost use Rattle.host.specs.Forward.{granted, asksStore, guard as guardOf, faulted as faultedOf, mineAfter, enqueues as enqueuesOf, clears as clearsOf, releases as releasesOf, forwarded as forwardedOf, forwardWord, forwardBegun};
+ghost use Rattle.host.specs.Forward.{granted, asksStore, guard as guardOf, faulted as faultedOf, mineAfter, enqueues as enqueuesOf, clears as clearsOf, releases as releasesOf, forwarded as forwardedOf};
+ghost use Rattle.host.specs.Frames.{opened, dataWord};
 use crate::Granted;
 use crate::Plan;
+use crate::Progress;
 use crate::Receive;
 use crate::Wish;
 use crate::plans::NO_ANSWER;
@@ -139,34 +141,24 @@ fn clears(deed: Deed) -> bool
 }
 
 // A forward that goes on collecting, after what was granted of its word.
-fn forwarded(
-    bridge: Bridge,
-    command: Command,
-    got: u16,
-    crc: u16,
-    mine: u16,
-    released: bool,
-    blocked: bool,
-    granted: Granted,
-) -> Plan
-    requires { ⌜ mine < 65535 ⌝ }
-    ensures { λ r. ⌜ r ≡ forwardedOf bridge command got crc mine released blocked granted ⌝ }
+fn forwarded(bridge: Bridge, command: Command, at: Progress, granted: Granted) -> Plan
+    requires { ⌜ at .mine < 65535 ⌝ }
+    ensures { λ r. ⌜ r ≡ forwardedOf bridge command (at .got) (at .crc) (at .mine) (at .released) (at .blocked) granted ⌝ }
 {
     let held = bridge.frame.held;
     let store = granted.store;
     let deed = granted.deed;
     let note = granted.note;
-    let unreleased = mine_after(deed, store, mine, released);
     let queued = enqueues(deed);
     let cleared = clears(deed);
     Plan {
         phase: Phase::Collecting {
             command: command,
-            got: got,
-            crc: crc,
-            mine: unreleased,
-            released: queued | released,
-            blocked: cleared | blocked,
+            got: at.got,
+            crc: at.crc,
+            mine: mine_after(deed, store, at.mine, at.released),
+            released: queued | at.released,
+            blocked: cleared | at.blocked,
         },
         held: held,
         control: faulted(bridge.control, note),
@@ -188,58 +180,74 @@ fn releases(crc: bool, words: u16, got: u16, released: bool, level: u16, count: 
     !crc & !released & (exceeded | whole)
 }
 
-// A data word of a forward, the got-th.
+// A data word of a forward: `at` is before it, but for the CRC.
 pub fn forward_word(
     bridge: Bridge,
-    command: Command,
     crc: bool,
     words: u16,
     ends: u16,
     reads: bool,
-    got: u16,
-    sum: u16,
-    mine: u16,
-    released: bool,
-    blocked: bool,
+    at: Progress,
     word: u16,
 ) -> Plan
-    requires { ⌜ (mine < 65535) × (bridge .sending .tx .count < 65535) ⌝ }
-    ensures { λ r. ⌜ r ≡ forwardWord bridge command crc words ends reads got sum mine released blocked word ⌝ }
+    requires { ⌜ (at .got < 65535) × (at .mine < 65535) × (bridge .sending .tx .count < 65535) ⌝ }
+    ensures { λ r. ⌜ r ≡ dataWord bridge (Command.Forward crc words ends reads) (at .got) (at .crc) (at .mine) (at .released) (at .blocked) word ⌝ }
 {
+    let next = at.got + 1;
     let count = bridge.sending.tx.count;
     let used = bridge.sending.queue.used;
     let level = bridge.control.regs.txfflvl;
     let wish = Wish {
         store: Store::Put(word),
-        release: releases(crc, words, got, released, level, count + 1),
+        release: releases(crc, words, next, at.released, level, count + 1),
         place: state::new_place(words, ends, reads),
     };
-    let granted = guard(blocked, count, used, wish);
-    forwarded(bridge, command, got, sum, mine, released, blocked, granted)
+    let granted = guard(at.blocked, count, used, wish);
+    let command = Command::Forward {
+        crc: crc,
+        words: words,
+        ends: ends,
+        reads: reads,
+    };
+    let mut after = at;
+    after.got = next;
+    forwarded(bridge, command, after, granted)
 }
 
 // The command word of a forward.
 pub fn forward_begun(
     bridge: Bridge,
-    command: Command,
     crc: bool,
     words: u16,
     ends: u16,
     reads: bool,
     sum: u16,
-    blocked: bool,
 ) -> Plan
-    ensures { λ r. ⌜ r ≡ forwardBegun bridge command crc words ends reads sum blocked ⌝ }
+    ensures { λ r. ⌜ r ≡ opened bridge (Command.Forward crc words ends reads) sum ⌝ }
 {
+    let blocked = registers::blocking(bridge.control.flags);
     let count = bridge.sending.tx.count;
     let used = bridge.sending.queue.used;
-    let empty = words == 0;
+    let wordless = words == 0;
     let owes = 0 < ends;
     let wish = Wish {
         store: Store::Keep,
-        release: !crc & empty & owes,
+        release: !crc & wordless & owes,
         place: state::new_place(words, ends, reads),
     };
     let granted = guard(blocked, count, used, wish);
-    forwarded(bridge, command, 0, sum, 0, false, blocked, granted)
+    let command = Command::Forward {
+        crc: crc,
+        words: words,
+        ends: ends,
+        reads: reads,
+    };
+    let at = Progress {
+        got: 0,
+        crc: sum,
+        mine: 0,
+        released: false,
+        blocked: blocked,
+    };
+    forwarded(bridge, command, at, granted)
 }

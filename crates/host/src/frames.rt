@@ -1,7 +1,7 @@
 // A host word by the frame's phase, and chip select (01 Frames; notes 3 and 4).
 ghost use mathlib.Core.Path.{_≡_};
-ghost use mathlib.Core.Bool.{Bool, true, false};
-ghost use Prim.Native.Nat.{ℕ, _≤_, _<_};
+ghost use mathlib.Core.Bool.{true, false};
+ghost use Prim.Native.Nat.{_+_, _≤_, _<_};
 ghost use lib.Dec.{ltb, eqb};
 ghost use Rattle.base.specs.Pick.{pick};
 ghost use Rattle.command.specs.Layouts.{ours};
@@ -9,6 +9,7 @@ ghost use Rattle.state.specs.Facts.{SendFit, HostFit};
 ghost use Rattle.state.specs.Frame.{dataWords, collectSound};
 ghost use Rattle.host.specs.Frames.{collects as collectsOf, opened as openedOf, dataWord, crcDue, planned as plannedOf, releasedIn};
 use crate::Plan;
+use crate::Progress;
 use crate::answers::answered;
 use crate::closing::crc_due;
 use crate::closing::cut;
@@ -48,10 +49,7 @@ fn opened(bridge: Bridge, command: Command, sum: u16) -> Plan
             words,
             ends,
             reads,
-        } => {
-            let blocked = registers::blocking(bridge.control.flags);
-            forward_begun(bridge, command, crc, words, ends, reads, sum, blocked)
-        }
+        } => forward_begun(bridge, crc, words, ends, reads, sum),
         Command::DataRead { crc: _, words: _ } => collects(bridge, command, sum),
         Command::RegisterWrite {
             crc: _,
@@ -67,19 +65,38 @@ fn opened(bridge: Bridge, command: Command, sum: u16) -> Plan
     }
 }
 
-// A data word; `sum` is the CRC with it.
-fn data_word(
+// A data word of a register write: `at` is before it, but for the CRC.
+fn register_data(
     bridge: Bridge,
-    command: Command,
-    got: u16,
-    sum: u16,
-    mine: u16,
-    released: bool,
-    blocked: bool,
+    crc: bool,
+    address: u16,
+    count: u16,
+    at: Progress,
     word: u16,
 ) -> Plan
-    requires { ⌜ (SendFit (bridge .sending)) × (mine ≤ bridge .sending .tx .count) × (collectSound command got mine released blocked ≡ true) × (got < dataWords command) ⌝ }
-    ensures { λ r. ⌜ r ≡ dataWord bridge command got sum mine released blocked word ⌝ }
+    requires { ⌜ address + at .got < 11 ⌝ }
+    ensures { λ r. ⌜ r ≡ dataWord bridge (Command.RegisterWrite crc address count) (at .got) (at .crc) (at .mine) (at .released) (at .blocked) word ⌝ }
+{
+    let got = at.got;
+    let phase = Phase::Collecting {
+        command: Command::RegisterWrite {
+            crc: crc,
+            address: address,
+            count: count,
+        },
+        got: got + 1,
+        crc: at.crc,
+        mine: at.mine,
+        released: at.released,
+        blocked: at.blocked,
+    };
+    register_word(bridge, crc, address, got, phase, word)
+}
+
+// A data word; only forwards and register writes have them.
+fn data_word(bridge: Bridge, command: Command, at: Progress, word: u16) -> Plan
+    requires { ⌜ (SendFit (bridge .sending)) × (at .mine ≤ bridge .sending .tx .count) × (collectSound command (at .got) (at .mine) (at .released) (at .blocked) ≡ true) × (at .got < dataWords command) ⌝ }
+    ensures { λ r. ⌜ r ≡ dataWord bridge command (at .got) (at .crc) (at .mine) (at .released) (at .blocked) word ⌝ }
 {
     match command {
         Command::Filler => plain(bridge, Phase::Idle, Note::Done),
@@ -89,38 +106,13 @@ fn data_word(
             words,
             ends,
             reads,
-        } => {
-            forward_word(
-                bridge,
-                command,
-                crc,
-                words,
-                ends,
-                reads,
-                got + 1,
-                sum,
-                mine,
-                released,
-                blocked,
-                word,
-            )
-        }
+        } => forward_word(bridge, crc, words, ends, reads, at, word),
         Command::DataRead { crc: _, words: _ } => plain(bridge, Phase::Idle, Note::Done),
         Command::RegisterWrite {
             crc,
             address,
-            count: _,
-        } => {
-            let phase = Phase::Collecting {
-                command: command,
-                got: got + 1,
-                crc: sum,
-                mine: mine,
-                released: released,
-                blocked: blocked,
-            };
-            register_word(bridge, crc, address, got, phase, word)
-        }
+            count,
+        } => register_data(bridge, crc, address, count, at, word),
         Command::RegisterRead {
             crc: _,
             address: _,
@@ -131,24 +123,17 @@ fn data_word(
 }
 
 // A data word or the CRC word.
-fn collected(
-    bridge: Bridge,
-    command: Command,
-    got: u16,
-    crc: u16,
-    mine: u16,
-    released: bool,
-    blocked: bool,
-    word: u16,
-) -> Plan
-    requires { ⌜ (SendFit (bridge .sending)) × (mine ≤ bridge .sending .tx .count) × (collectSound command got mine released blocked ≡ true) ⌝ }
-    ensures { λ r. ⌜ r ≡ pick (ltb got (dataWords command)) (dataWord bridge command got (ours .crcStep crc word) mine released blocked word) (crcDue ours bridge command mine blocked (eqb word crc)) ⌝ }
+fn collected(bridge: Bridge, command: Command, at: Progress, word: u16) -> Plan
+    requires { ⌜ (SendFit (bridge .sending)) × (at .mine ≤ bridge .sending .tx .count) × (collectSound command (at .got) (at .mine) (at .released) (at .blocked) ≡ true) ⌝ }
+    ensures { λ r. ⌜ r ≡ pick (ltb (at .got) (dataWords command)) (dataWord bridge command (at .got) (ours .crcStep (at .crc) word) (at .mine) (at .released) (at .blocked) word) (crcDue ours bridge command (at .mine) (at .blocked) (eqb word (at .crc))) ⌝ }
 {
-    if is_due(command, got) {
-        let sum = crc16::crc_word(crc, word);
-        return data_word(bridge, command, got, sum, mine, released, blocked, word);
+    if is_due(command, at.got) {
+        let crc = crc16::crc_word(at.crc, word);
+        let mut now = at;
+        now.crc = crc;
+        return data_word(bridge, command, now, word);
     }
-    crc_due(bridge, command, mine, blocked, word == crc)
+    crc_due(bridge, command, at.mine, at.blocked, word == at.crc)
 }
 
 // A host word; `rx_oldest` is the oldest word of RX.
@@ -171,7 +156,16 @@ pub fn planned(bridge: Bridge, word: u16, rx_oldest: u16) -> Plan
             mine,
             released,
             blocked,
-        } => { collected(bridge, command, got, crc, mine, released, blocked, word) }
+        } => {
+            let at = Progress {
+                got: got,
+                crc: crc,
+                mine: mine,
+                released: released,
+                blocked: blocked,
+            };
+            collected(bridge, command, at, word)
+        }
         Phase::Answering { reply, crc } => answered(bridge, reply, crc, rx_oldest),
         Phase::Discarding => plain(bridge, Phase::Discarding, Note::Discarded),
     }

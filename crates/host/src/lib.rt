@@ -65,3 +65,12 @@ pub struct Effects {
     pub clears_rx: bool,
     pub refused: bool,
 }
+
+// How far an open frame has come: what `state::Phase::Collecting` keeps beside the command.
+pub(crate) struct Progress {
+    pub(crate) got: u16,
+    pub(crate) crc: u16,
+    pub(crate) mine: u16,
+    pub(crate) released: bool,
+    pub(crate) blocked: bool,
+}

@@ -1,10 +1,9 @@
 // Data words and register writes (01 Frames, "REG_WR writes as words come, REG_WR_CRC at the CRC word, ascending").
 ghost use mathlib.Core.Path.{_≡_};
 ghost use mathlib.Core.Bool.{true, false};
-ghost use Prim.Native.Nat.{ℕ, _+_, _<_, _≤_};
+ghost use Prim.Native.Nat.{_+_, _<_, _≤_};
 ghost use lib.ListN.{take};
 ghost use Rattle.base.specs.Pick.{pick};
-ghost use Rattle.registers.specs.Writing.{writeOf};
 ghost use Rattle.host.specs.Frames.{isQuiet, busy as busyOf, isTransmitClear, isReceiveClear, isRefused, withWrite, writeAll, noEffects, effected as effectedOf, heldWord, registerWord};
 ghost use Rattle.state.specs.declared.Deed.the-variants.{Leave, ClearAll};
 ghost use Rattle.state.specs.declared.Note.the-variants.{Done, LineBusy};

@@ -1,6 +1,7 @@
 use borrow.Author.Needs.{needs}
 use Rattle.host.specs.Frames.{answered}
-use Rattle.host.proofs.Laws.{to-answer, to-status, to-register, next-fits}
+use Rattle.host.proofs.Replies.{to-answer, to-status, to-register}
+use Rattle.host.proofs.Sound.{next-fits}
 use Rattle.host.proofs.answers.answered.Statement.{statement}
 use Rattle.host.proofs.answers.answered.Tie as tie
 

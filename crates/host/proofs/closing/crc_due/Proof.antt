@@ -1,6 +1,7 @@
 use borrow.Author.Needs.{needs}
 use Rattle.host.specs.Frames.{crcDue}
-use Rattle.host.proofs.Laws.{to-due, spanned}
+use Rattle.host.proofs.Replies.{to-due}
+use Rattle.host.proofs.Sound.{spanned}
 use Rattle.host.proofs.closing.crc_due.Statement.{statement}
 use Rattle.host.proofs.closing.crc_due.Tie as tie
 

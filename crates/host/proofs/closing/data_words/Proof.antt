@@ -1,6 +1,6 @@
 use borrow.Author.Needs.{needs}
 use Rattle.state.specs.Frame.{dataWords}
-use Rattle.host.proofs.Laws.{at-case}
+use Rattle.host.proofs.Cases.{at-case}
 use Rattle.host.proofs.closing.data_words.Statement.{statement}
 use Rattle.host.proofs.closing.data_words.Tie as tie
 

@@ -1,6 +1,6 @@
 use borrow.Author.Needs.{needs}
 use Rattle.host.specs.Forward.{asksStore}
-use Rattle.host.proofs.Laws.{at-case}
+use Rattle.host.proofs.Cases.{at-case}
 use Rattle.host.proofs.forward.asks_store.Statement.{statement}
 use Rattle.host.proofs.forward.asks_store.Tie as tie
 

@@ -1,6 +1,7 @@
 use borrow.Author.Needs.{needs}
 use Rattle.host.specs.Forward.{faulted}
-use Rattle.host.proofs.Laws.{at-second, unfaulted}
+use Rattle.host.proofs.Cases.{at-second}
+use Rattle.host.proofs.Forwards.{unfaulted}
 use Rattle.host.proofs.forward.faulted.Statement.{statement}
 use Rattle.host.proofs.forward.faulted.Tie as tie
 

@@ -1,7 +1,10 @@
 use borrow.Author.Needs.{needs}
-use Rattle.host.proofs.Laws.{to-forward-word}
+use Rattle.host.proofs.Forwards.{to-forward-word}
 use Rattle.host.proofs.forward.forward_word.Statement.{statement}
 use Rattle.host.proofs.forward.forward_word.Tie as tie
+
+add-next : tie.Need-add-next
+add-next c = search needs
 
 add-releases : tie.Need-add-releases
 add-releases c = search needs
@@ -25,6 +28,7 @@ pub forward-word-spec : {M : Type 1} → statement M
 forward-word-spec =
     tie.close
     (tie.spec
+    add-next
     add-releases
     releases-requires
     new-place-requires

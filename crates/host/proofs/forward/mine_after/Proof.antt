@@ -1,6 +1,6 @@
 use borrow.Author.Needs.{needs}
 use Rattle.host.specs.Forward.{mineAfter}
-use Rattle.host.proofs.Laws.{at-case-4, told-and}
+use Rattle.host.proofs.Cases.{at-case-4, told-and}
 use Rattle.host.proofs.forward.mine_after.Statement.{statement}
 use Rattle.host.proofs.forward.mine_after.Tie as tie
 

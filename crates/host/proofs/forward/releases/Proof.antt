@@ -1,5 +1,5 @@
 use borrow.Author.Needs.{needs}
-use Rattle.host.proofs.Laws.{exceeded}
+use Rattle.host.proofs.Forwards.{exceeded}
 use Rattle.host.proofs.forward.releases.Statement.{statement}
 use Rattle.host.proofs.forward.releases.Tie as tie
 

@@ -1,6 +1,7 @@
 use borrow.Author.Needs.{needs}
 use Rattle.base.specs.Pick.{picks}
-use Rattle.host.proofs.Laws.{told-due, told-data, register-spans}
+use Rattle.host.proofs.Sound.{told-due, register-span}
+use Rattle.host.proofs.Words.{told-data}
 use Rattle.host.proofs.frames.collected.Statement.{statement}
 use Rattle.host.proofs.frames.collected.Tie as tie
 
@@ -17,7 +18,7 @@ returns : tie.Need-returns
 returns c = search (needs, picks, told-data)
 
 crc-due-requires : tie.Need-crc-due-requires
-crc-due-requires c κs = search (needs, register-spans)
+crc-due-requires c κs = search (needs, register-span)
 
 returns-2 : tie.Need-returns-2
 returns-2 c = search (needs, picks)

@@ -1,6 +1,7 @@
 use borrow.Author.Needs.{needs}
+use Rattle.host.proofs.Sound.{forward-room, register-room}
 use Rattle.host.specs.Frames.{dataWord}
-use Rattle.host.proofs.Laws.{to-data, to-data-forward, to-data-register, forward-room, register-room, register-next}
+use Rattle.host.proofs.Words.{to-data}
 use Rattle.host.proofs.frames.data_word.Statement.{statement}
 use Rattle.host.proofs.frames.data_word.Tie as tie
 
@@ -19,11 +20,8 @@ plain-requires-2 c κs = search needs
 enum-known-command : tie.Need-enum-known-command
 enum-known-command c = search needs
 
-add-forward-word : tie.Need-add-forward-word
-add-forward-word c = search (needs, forward-room)
-
 forward-word-requires : tie.Need-forward-word-requires
-forward-word-requires c κs = search needs
+forward-word-requires c κs = search (needs, forward-room)
 
 enum-told-3 : tie.Need-enum-told-3
 enum-told-3 c = search needs
@@ -34,11 +32,8 @@ plain-requires-3 c κs = search needs
 enum-known-command-2 : tie.Need-enum-known-command-2
 enum-known-command-2 c = search needs
 
-add-t24 : tie.Need-add-t24
-add-t24 c = search (needs, register-next)
-
-register-word-requires : tie.Need-register-word-requires
-register-word-requires c κs = search (needs, register-room)
+register-data-requires : tie.Need-register-data-requires
+register-data-requires c κs = search (needs, register-room)
 
 enum-told-4 : tie.Need-enum-told-4
 enum-told-4 c = search needs
@@ -61,14 +56,14 @@ unfolding dataWord
 returns-2 c = search (needs, to-data)
 
 returns-3 : tie.Need-returns-3
-returns-3 c = search (needs, to-data-forward)
+returns-3 c = search (needs, to-data)
 
 returns-4 : tie.Need-returns-4
 unfolding dataWord
 returns-4 c = search (needs, to-data)
 
 returns-5 : tie.Need-returns-5
-returns-5 c = search (needs, to-data-register)
+returns-5 c = search (needs, to-data)
 
 returns-6 : tie.Need-returns-6
 unfolding dataWord
@@ -87,13 +82,11 @@ data-word-spec =
     enum-told-2
     plain-requires-2
     enum-known-command
-    add-forward-word
     forward-word-requires
     enum-told-3
     plain-requires-3
     enum-known-command-2
-    add-t24
-    register-word-requires
+    register-data-requires
     enum-told-4
     plain-requires-4
     enum-told-5

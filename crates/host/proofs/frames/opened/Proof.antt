@@ -1,6 +1,6 @@
 use borrow.Author.Needs.{needs}
 use Rattle.host.specs.Frames.{opened}
-use Rattle.host.proofs.Laws.{to-opened, to-collects, to-begun}
+use Rattle.host.proofs.Words.{to-opened, to-collects}
 use Rattle.host.proofs.frames.opened.Statement.{statement}
 use Rattle.host.proofs.frames.opened.Tie as tie
 
@@ -18,9 +18,6 @@ plain-requires-2 c κs = search needs
 
 enum-known-command : tie.Need-enum-known-command
 enum-known-command c = search needs
-
-blocking-requires : tie.Need-blocking-requires
-blocking-requires c κs = search needs
 
 forward-begun-requires : tie.Need-forward-begun-requires
 forward-begun-requires c κs = search needs
@@ -58,7 +55,7 @@ unfolding opened
 returns-2 c = search (needs, to-opened)
 
 returns-3 : tie.Need-returns-3
-returns-3 c = search (needs, to-begun)
+returns-3 c = search (needs, to-opened)
 
 returns-4 : tie.Need-returns-4
 unfolding opened
@@ -85,7 +82,6 @@ opened-spec =
     enum-told-2
     plain-requires-2
     enum-known-command
-    blocking-requires
     forward-begun-requires
     enum-told-3
     collects-requires

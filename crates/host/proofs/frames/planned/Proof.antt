@@ -1,6 +1,7 @@
 use borrow.Author.Needs.{needs}
+use Rattle.host.proofs.Sound.{host-collects, host-mine, host-reply}
 use Rattle.host.specs.Frames.{plannedIn}
-use Rattle.host.proofs.Laws.{to-planned, to-begin, host-collects, host-mine, host-reply}
+use Rattle.host.proofs.Words.{to-planned, to-begin}
 use Rattle.host.proofs.frames.planned.Statement.{statement}
 use Rattle.host.proofs.frames.planned.Tie as tie
 

@@ -1,6 +1,6 @@
 use borrow.Author.Needs.{needs}
 use Rattle.host.specs.Frames.{releasedIn}
-use Rattle.host.proofs.Laws.{at-second}
+use Rattle.host.proofs.Cases.{at-second}
 use Rattle.host.proofs.frames.released.Statement.{statement}
 use Rattle.host.proofs.frames.released.Tie as tie
 

@@ -1,6 +1,6 @@
 use borrow.Author.Needs.{needs}
 use Rattle.host.specs.Plan.{clearedAway}
-use Rattle.host.proofs.Laws.{at-second}
+use Rattle.host.proofs.Cases.{at-second}
 use Rattle.host.proofs.performing.cleared_away.Statement.{statement}
 use Rattle.host.proofs.performing.cleared_away.Tie as tie
 

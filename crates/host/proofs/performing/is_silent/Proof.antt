@@ -1,5 +1,5 @@
 use borrow.Author.Needs.{needs}
-use Rattle.host.proofs.Laws.{low-bit}
+use Rattle.host.proofs.Parts.{low-bit}
 use Rattle.host.proofs.performing.is_silent.Statement.{statement}
 use Rattle.host.proofs.performing.is_silent.Tie as tie
 

@@ -1,5 +1,5 @@
 use borrow.Author.Needs.{needs}
-use Rattle.host.proofs.Laws.{to-performed, told-doable, kept-ring}
+use Rattle.host.proofs.Parts.{to-performed, told-doable, kept-ring}
 use Rattle.host.proofs.performing.performed.Statement.{statement}
 use Rattle.host.proofs.performing.performed.Tie as tie
 

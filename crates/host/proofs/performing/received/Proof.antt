@@ -1,6 +1,7 @@
 use borrow.Author.Needs.{needs}
 use Rattle.host.specs.Plan.{received}
-use Rattle.host.proofs.Laws.{at-second, to-popped}
+use Rattle.host.proofs.Cases.{at-second}
+use Rattle.host.proofs.Parts.{to-popped}
 use Rattle.host.proofs.performing.received.Statement.{statement}
 use Rattle.host.proofs.performing.received.Tie as tie
 

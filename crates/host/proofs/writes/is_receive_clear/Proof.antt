@@ -1,6 +1,6 @@
 use borrow.Author.Needs.{needs}
 use Rattle.host.specs.Frames.{isReceiveClear}
-use Rattle.host.proofs.Laws.{at-case}
+use Rattle.host.proofs.Cases.{at-case}
 use Rattle.host.proofs.writes.is_receive_clear.Statement.{statement}
 use Rattle.host.proofs.writes.is_receive_clear.Tie as tie
 

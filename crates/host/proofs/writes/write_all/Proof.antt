@@ -4,7 +4,7 @@ use lib.ListN.{length}
 use mathlib.Core.Path.{_≡_}
 use mir.Syntax.{w16}
 use Prim.Native.Nat.{_-_}
-use Rattle.host.proofs.Laws.{Writing, to-first, to-last, to-next}
+use Rattle.host.proofs.Writing.{Writing, to-first, to-last, to-next}
 use Rattle.host.proofs.writes.write_all.Statement.{statement}
 use Rattle.host.proofs.writes.write_all.Tie as tie
 

@@ -1,0 +1,38 @@
+-- Arms of the command word, a data word and a host word, as the proofs of src/frames.rt ask them. Assumes nothing.
+use mathlib.Core.Path.{_≡_, sym, _∙_, ap}
+use mathlib.Core.Bool.{Bool}
+use Prim.Native.Nat.{ℕ}
+use Rattle.command.specs.Layouts.{ours}
+use Rattle.command.specs.declared.Command.{Command}
+use Rattle.state.specs.declared.Phase.{Phase}
+use Rattle.state.specs.declared.Phase.the-variants.{Idle}
+use Rattle.state.specs.declared.Bridge.{Bridge}
+use Rattle.host.specs.Frames.{collects, opened, dataWord, plannedIn, planned}
+use Rattle.host.specs.declared.Plan.{Plan}
+
+-- an arm of the command word
+pub to-opened : (b : Bridge) (command k : Command) (sum : ℕ) (x : Plan) → command ≡ k → x ≡ opened b k sum → x ≡ opened b command sum
+to-opened b command k sum x h e = rw h e
+
+pub to-collects : (b : Bridge) (command k : Command) (sum : ℕ) (x : Plan) → command ≡ k → opened b k sum ≡ collects b k sum
+    → x ≡ collects b command sum → x ≡ opened b command sum
+to-collects b command k sum x h q e = rw (h, q) (rw h at e)
+
+-- an arm of a data word
+pub to-data : (b : Bridge) (command k : Command) (got sum mine : ℕ) (released blocked : Bool) (w : ℕ) (x : Plan) → command ≡ k
+    → x ≡ dataWord b k got sum mine released blocked w → x ≡ dataWord b command got sum mine released blocked w
+to-data b command k got sum mine released blocked w x h e = rw h e
+
+pub told-data : (b : Bridge) (command : Command) (got sum crc mine : ℕ) (released blocked : Bool) (w : ℕ) (x : Plan) → sum ≡ ours .crcStep crc w
+    → x ≡ dataWord b command got sum mine released blocked w → x ≡ dataWord b command got (ours .crcStep crc w) mine released blocked w
+told-data b command got sum crc mine released blocked w x h e = rw h at e
+
+-- an arm of a host word
+pub to-planned : (b : Bridge) (p : Phase) (w o : ℕ) (x : Plan) → b .frame .phase ≡ p → x ≡ plannedIn ours b p w o → x ≡ planned ours b w o
+unfolding planned
+to-planned b p w o x h e = e ∙ ap (λ (q : Phase). plannedIn ours b q w o) (sym h)
+
+pub to-begin : (b : Bridge) (w o : ℕ) (command : Command) (sum : ℕ) (x : Plan) → b .frame .phase ≡ Idle → command ≡ ours .decode w
+    → sum ≡ ours .crcStep (ours .crcStart) w → x ≡ opened b command sum → x ≡ planned ours b w o
+unfolding plannedIn
+to-begin b w o command sum x h p q e = to-planned b Idle w o x h (rw (← p, ← q) e)
