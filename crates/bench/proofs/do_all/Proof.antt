@@ -1,12 +1,9 @@
+-- `bench::do_all` meets its contract.
 use mathlib.Core.Path.{_≡_}
 use lib.ListN.{length}
 use borrow.Author.Needs.{needs}
 use Rattle.bench.proofs.do_all.Statement.{statement}
 use Rattle.bench.proofs.do_all.Tie as tie
-use Rattle.bench.proofs.do_all.Reads as reads
-use Rattle.bench.proofs.do_all.Lts as lts
-use Rattle.bench.proofs.do_some.Reads as do-some-reads
-use Rattle.state.proofs.Bridge.good.Reads as good-reads
 
 abbrev Inv-loop : tie.InvT-loop
 Inv-loop fd tx₀ rx₀ bridge₀ turns₀ tx rx bridge turns = (length tx ≡ 512) × (length rx ≡ 256)

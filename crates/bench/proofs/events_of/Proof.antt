@@ -1,14 +1,10 @@
+-- `bench::events_of` meets its contract.
 use Prim.Native.Nat.{_+_, _≤_, _-_}
 use mathlib.Core.Path.{_≡_}
 use lib.ListN.{length}
 use borrow.Author.Needs.{needs}
 use Rattle.bench.proofs.events_of.Statement.{statement}
 use Rattle.bench.proofs.events_of.Tie as tie
-use Rattle.bench.proofs.events_of.Reads as reads
-use Rattle.bench.proofs.events_of.Lts as lts
-use Rattle.bench.proofs.no_event.Reads as no-event-reads
-use Rattle.bench.proofs.one.Reads as one-reads
-use Rattle.script.proofs.value.Reads as value-reads
 
 abbrev Inv-loop : tie.InvT-loop
 Inv-loop tx₀ rx₀ input out₀ bridge₀ at₀ i₀ tx rx out bridge at i = (i ≤ length input) × (length out ≡ length out₀) × (length tx ≡ length tx₀) × (length rx ≡ length rx₀)

@@ -1,11 +1,10 @@
+-- `bench::put` meets its contract.
 use Prim.Native.Nat.{_≤_, _-_}
 use mathlib.Core.Path.{_≡_}
 use lib.ListN.{length}
 use borrow.Author.Needs.{needs}
 use Rattle.bench.proofs.put.Statement.{statement}
 use Rattle.bench.proofs.put.Tie as tie
-use Rattle.bench.proofs.put.Reads as reads
-use Rattle.bench.proofs.put.Lts as lts
 
 abbrev Inv-loop : tie.InvT-loop
 Inv-loop out₀ at line i₀ out i = (i ≤ 17) × (length out ≡ length out₀)

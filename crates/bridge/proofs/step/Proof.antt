@@ -1,14 +1,10 @@
+-- `bridge::step` meets its contract.
 use borrow.Author.Needs.{needs}
 use Rattle.bridge.specs.Step.{step}
 use Rattle.base.specs.Pick.{picks}
 use Rattle.bridge.proofs.Laws.{to-refused, is-ready}
 use Rattle.bridge.proofs.step.Statement.{statement}
 use Rattle.bridge.proofs.step.Tie as tie
-use Rattle.bridge.proofs.step.Reads as reads
-use Rattle.bridge.proofs.step.Lts as lts
-use Rattle.bridge.proofs.refused.Reads as refused-reads
-use Rattle.events.proofs.turn.Reads as turn-reads
-use Rattle.rules.proofs.sound.Reads as sound-reads
 
 refused-requires : tie.Need-refused-requires
 refused-requires c κs = search needs

@@ -1,11 +1,8 @@
+-- `events::turn` meets its contract.
 use borrow.Author.Needs.{needs}
 use Rattle.events.proofs.Turns.{ready-fit, ready-tx, ready-rx, tx-head, rx-head, to-turn}
 use Rattle.events.proofs.turn.Statement.{statement}
 use Rattle.events.proofs.turn.Tie as tie
-use Rattle.events.proofs.turn.Reads as reads
-use Rattle.events.proofs.turn.Lts as lts
-use Rattle.events.proofs.react.react.Reads as react-reads
-use Rattle.events.proofs.write_cell.Reads as write-cell-reads
 
 cast-tx-head : tie.Need-cast-tx-head
 cast-tx-head c = search needs

@@ -1,9 +1,8 @@
+-- `events::write_cell` meets its contract.
 use borrow.Author.Needs.{needs}
 use Rattle.events.proofs.Laws.{cell-lt, to-kept, to-put}
 use Rattle.events.proofs.write_cell.Statement.{statement}
 use Rattle.events.proofs.write_cell.Tie as tie
-use Rattle.events.proofs.write_cell.Reads as reads
-use Rattle.events.proofs.write_cell.Lts as lts
 
 cast-head : tie.Need-cast-head
 cast-head c = search needs

@@ -1,9 +1,8 @@
+-- `script::head` meets its contract.
 use borrow.Author.Needs.{needs}
 use Rattle.base.specs.Pick.{picks}
 use Rattle.script.proofs.head.Statement.{statement}
 use Rattle.script.proofs.head.Tie as tie
-use Rattle.script.proofs.head.Reads as reads
-use Rattle.script.proofs.head.Lts as lts
 
 returns : tie.Need-returns
 returns c = search (needs, picks)

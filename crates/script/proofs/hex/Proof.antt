@@ -1,9 +1,8 @@
+-- `script::hex` meets its contract.
 use borrow.Author.Needs.{needs}
 use Rattle.base.specs.Pick.{picks}
 use Rattle.script.proofs.hex.Statement.{statement}
 use Rattle.script.proofs.hex.Tie as tie
-use Rattle.script.proofs.hex.Reads as reads
-use Rattle.script.proofs.hex.Lts as lts
 
 cast-d : tie.Need-cast-d
 cast-d c = search needs

@@ -1,10 +1,9 @@
+-- `script::power` meets its contract.
 use borrow.Author.Needs.{needs}
 use Rattle.script.specs.Script.{bitRecord}
 use Rattle.base.specs.Pick.{picks}
 use Rattle.script.proofs.power.Statement.{statement}
 use Rattle.script.proofs.power.Tie as tie
-use Rattle.script.proofs.power.Reads as reads
-use Rattle.script.proofs.power.Lts as lts
 
 returns : tie.Need-returns
 unfolding bitRecord

@@ -1,13 +1,9 @@
+-- `script::printed` meets its contract.
 use borrow.Author.Needs.{needs}
 use Rattle.script.specs.Script.{lineOf}
 use Rattle.base.specs.Pick.{pick-lt, pick-not-lt}
 use Rattle.script.proofs.printed.Statement.{statement}
 use Rattle.script.proofs.printed.Tie as tie
-use Rattle.script.proofs.printed.Reads as reads
-use Rattle.script.proofs.printed.Lts as lts
-use Rattle.script.proofs.digit.Reads as digit-reads
-use Rattle.script.proofs.hex.Reads as hex-reads
-use Rattle.script.proofs.sign.Reads as sign-reads
 
 digit-requires : tie.Need-digit-requires
 digit-requires c κs = search needs

@@ -1,13 +1,9 @@
+-- `script::read` meets its contract.
 use borrow.Author.Needs.{needs}
 use Rattle.script.specs.Script.{recordOf}
 use Rattle.script.proofs.Laws.{to-kind, to-bad}
 use Rattle.script.proofs.read.Statement.{statement}
 use Rattle.script.proofs.read.Tie as tie
-use Rattle.script.proofs.read.Reads as reads
-use Rattle.script.proofs.read.Lts as lts
-use Rattle.script.proofs.power.Reads as power-reads
-use Rattle.script.proofs.release.Reads as release-reads
-use Rattle.script.proofs.tick.Reads as tick-reads
 
 power-requires : tie.Need-power-requires
 power-requires c κs = search needs

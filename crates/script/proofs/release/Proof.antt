@@ -1,10 +1,9 @@
+-- `script::release` meets its contract.
 use borrow.Author.Needs.{needs}
 use Rattle.script.specs.Script.{releaseRecord}
 use Rattle.base.specs.Pick.{picks}
 use Rattle.script.proofs.release.Statement.{statement}
 use Rattle.script.proofs.release.Tie as tie
-use Rattle.script.proofs.release.Reads as reads
-use Rattle.script.proofs.release.Lts as lts
 
 returns : tie.Need-returns
 unfolding releaseRecord

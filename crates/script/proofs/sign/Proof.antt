@@ -1,9 +1,8 @@
+-- `script::sign` meets its contract.
 use borrow.Author.Needs.{needs}
 use Rattle.script.proofs.Laws.{sign-one, sign-zero}
 use Rattle.script.proofs.sign.Statement.{statement}
 use Rattle.script.proofs.sign.Tie as tie
-use Rattle.script.proofs.sign.Reads as reads
-use Rattle.script.proofs.sign.Lts as lts
 
 returns : tie.Need-returns
 returns c = search (needs, sign-one, sign-zero)

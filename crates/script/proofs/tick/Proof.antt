@@ -1,10 +1,9 @@
+-- `script::tick` meets its contract.
 use borrow.Author.Needs.{needs}
 use Rattle.script.specs.Script.{bitRecord}
 use Rattle.base.specs.Pick.{picks}
 use Rattle.script.proofs.tick.Statement.{statement}
 use Rattle.script.proofs.tick.Tie as tie
-use Rattle.script.proofs.tick.Reads as reads
-use Rattle.script.proofs.tick.Lts as lts
 
 returns : tie.Need-returns
 unfolding bitRecord

@@ -1,13 +1,8 @@
+-- `events::clock::clocked` meets its contract.
 use borrow.Author.Needs.{needs}
 use Rattle.events.specs.Events.{clocked}
 use Rattle.events.proofs.clock.clocked.Statement.{statement}
 use Rattle.events.proofs.clock.clocked.Tie as tie
-use Rattle.events.proofs.clock.clocked.Reads as reads
-use Rattle.events.proofs.clock.clocked.Lts as lts
-use Rattle.events.proofs.clock.clocked_by.Reads as clocked-by-reads
-use Rattle.events.proofs.clock.dog_fires.Reads as dog-fires-reads
-use Rattle.events.proofs.clock.watch_fires.Reads as watch-fires-reads
-use Rattle.events.proofs.react.quietly.Reads as quietly-reads
 
 watch-fires-requires : tie.Need-watch-fires-requires
 watch-fires-requires c κs = search needs

@@ -1,9 +1,7 @@
+-- `events::clock::clocked_by` meets its contract.
 use borrow.Author.Needs.{needs}
 use Rattle.events.proofs.clock.clocked_by.Statement.{statement}
 use Rattle.events.proofs.clock.clocked_by.Tie as tie
-use Rattle.events.proofs.clock.clocked_by.Reads as reads
-use Rattle.events.proofs.clock.clocked_by.Lts as lts
-use Rattle.events.proofs.clock.control_at.Reads as control-at-reads
 
 control-at-requires : tie.Need-control-at-requires
 control-at-requires c κs = search needs

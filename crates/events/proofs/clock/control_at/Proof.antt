@@ -1,12 +1,8 @@
+-- `events::clock::control_at` meets its contract.
 use borrow.Author.Needs.{needs}
 use Rattle.events.specs.Events.{controlAt}
 use Rattle.events.proofs.clock.control_at.Statement.{statement}
 use Rattle.events.proofs.clock.control_at.Tie as tie
-use Rattle.events.proofs.clock.control_at.Reads as reads
-use Rattle.events.proofs.clock.control_at.Lts as lts
-use Rattle.events.proofs.clock.flags_at.Reads as flags-at-reads
-use Rattle.events.proofs.clock.mode_at.Reads as mode-at-reads
-use Rattle.host.proofs.settled.Reads as settled-reads
 
 mode-at-requires : tie.Need-mode-at-requires
 mode-at-requires c κs = search needs

@@ -1,10 +1,7 @@
+-- `events::clock::dog_fires` meets its contract.
 use borrow.Author.Needs.{needs}
 use Rattle.events.proofs.clock.dog_fires.Statement.{statement}
 use Rattle.events.proofs.clock.dog_fires.Tie as tie
-use Rattle.events.proofs.clock.dog_fires.Reads as reads
-use Rattle.events.proofs.clock.dog_fires.Lts as lts
-use Rattle.events.proofs.clock.elapsed.Reads as elapsed-reads
-use Rattle.registers.proofs.is_normal.Reads as is-normal-reads
 
 is-normal-requires : tie.Need-is-normal-requires
 is-normal-requires c κs = search needs

@@ -1,11 +1,9 @@
+-- `events::clock::elapsed` meets its contract.
 use borrow.Author.Needs.{needs}
 use Rattle.events.specs.Events.{elapsed}
 use native.Mathlib.Omega.{arith}
 use Rattle.events.proofs.clock.elapsed.Statement.{statement}
 use Rattle.events.proofs.clock.elapsed.Tie as tie
-use Rattle.events.proofs.clock.elapsed.Reads as reads
-use Rattle.events.proofs.clock.elapsed.Lts as lts
-use Rattle.std.proofs.num.wrapping_sub_u16.Reads as wrapping-sub-u16-reads
 
 wrapping-sub-u16-requires : tie.Need-wrapping-sub-u16-requires
 wrapping-sub-u16-requires c κs = search needs

@@ -1,11 +1,9 @@
+-- `events::clock::flags_at` meets its contract.
 use borrow.Author.Needs.{needs}
 use Rattle.events.specs.Events.{flagsAt}
 use Rattle.base.specs.Pick.{picks}
 use Rattle.events.proofs.clock.flags_at.Statement.{statement}
 use Rattle.events.proofs.clock.flags_at.Tie as tie
-use Rattle.events.proofs.clock.flags_at.Reads as reads
-use Rattle.events.proofs.clock.flags_at.Lts as lts
-use Rattle.registers.proofs.raise.Reads as raise-reads
 
 raise-requires : tie.Need-raise-requires
 raise-requires c κs = search needs

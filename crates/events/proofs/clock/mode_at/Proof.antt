@@ -1,10 +1,9 @@
+-- `events::clock::mode_at` meets its contract.
 use borrow.Author.Needs.{needs}
 use Rattle.events.specs.Events.{modeAt}
 use Rattle.base.specs.Pick.{picks}
 use Rattle.events.proofs.clock.mode_at.Statement.{statement}
 use Rattle.events.proofs.clock.mode_at.Tie as tie
-use Rattle.events.proofs.clock.mode_at.Reads as reads
-use Rattle.events.proofs.clock.mode_at.Lts as lts
 
 returns : tie.Need-returns
 unfolding modeAt

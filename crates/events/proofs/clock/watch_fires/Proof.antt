@@ -1,9 +1,7 @@
+-- `events::clock::watch_fires` meets its contract.
 use borrow.Author.Needs.{needs}
 use Rattle.events.proofs.clock.watch_fires.Statement.{statement}
 use Rattle.events.proofs.clock.watch_fires.Tie as tie
-use Rattle.events.proofs.clock.watch_fires.Reads as reads
-use Rattle.events.proofs.clock.watch_fires.Lts as lts
-use Rattle.events.proofs.clock.elapsed.Reads as elapsed-reads
 
 elapsed-requires : tie.Need-elapsed-requires
 elapsed-requires c κs = search needs

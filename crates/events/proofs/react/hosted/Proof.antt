@@ -1,9 +1,7 @@
+-- `events::react::hosted` meets its contract.
 use borrow.Author.Needs.{needs}
 use Rattle.events.proofs.react.hosted.Statement.{statement}
 use Rattle.events.proofs.react.hosted.Tie as tie
-use Rattle.events.proofs.react.hosted.Reads as reads
-use Rattle.events.proofs.react.hosted.Lts as lts
-use Rattle.host.proofs.performed.Reads as performed-reads
 
 performed-requires : tie.Need-performed-requires
 performed-requires c κs = search needs

@@ -1,12 +1,9 @@
+-- `events::react::powered` meets its contract.
 use borrow.Author.Needs.{needs}
 use Rattle.events.specs.Events.{powered}
 use Rattle.base.specs.Pick.{picks}
 use Rattle.events.proofs.react.powered.Statement.{statement}
 use Rattle.events.proofs.react.powered.Tie as tie
-use Rattle.events.proofs.react.powered.Reads as reads
-use Rattle.events.proofs.react.powered.Lts as lts
-use Rattle.state.proofs.Bridge.bad.Reads as bad-reads
-use Rattle.state.proofs.Bridge.good.Reads as good-reads
 
 good-requires : tie.Need-good-requires
 good-requires c κs = search needs

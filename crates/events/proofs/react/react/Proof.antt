@@ -1,16 +1,9 @@
+-- `events::react::react` meets its contract.
 use borrow.Author.Needs.{needs}
 use Rattle.events.specs.Events.{reacted}
 use Rattle.events.proofs.Turns.{to-event, to-powered}
 use Rattle.events.proofs.react.react.Statement.{statement}
 use Rattle.events.proofs.react.react.Tie as tie
-use Rattle.events.proofs.react.react.Reads as reads
-use Rattle.events.proofs.react.react.Lts as lts
-use Rattle.events.proofs.clock.clocked.Reads as clocked-reads
-use Rattle.events.proofs.react.powered.Reads as powered-reads
-use Rattle.events.proofs.react.quietly.Reads as quietly-reads
-use Rattle.events.proofs.react.release_event.Reads as release-event-reads
-use Rattle.events.proofs.react.word_event.Reads as word-event-reads
-use Rattle.events.proofs.tick.ticked.Reads as ticked-reads
 
 enum-known-event : tie.Need-enum-known-event
 enum-known-event c = search needs

@@ -1,11 +1,8 @@
+-- `events::react::release_event` meets its contract.
 use borrow.Author.Needs.{needs}
 use Rattle.events.proofs.Laws.{cut-doable}
 use Rattle.events.proofs.react.release_event.Statement.{statement}
 use Rattle.events.proofs.react.release_event.Tie as tie
-use Rattle.events.proofs.react.release_event.Reads as reads
-use Rattle.events.proofs.react.release_event.Lts as lts
-use Rattle.events.proofs.react.hosted.Reads as hosted-reads
-use Rattle.host.proofs.released.Reads as released-reads
 
 released-requires : tie.Need-released-requires
 released-requires c κs = search needs

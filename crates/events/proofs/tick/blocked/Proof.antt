@@ -1,11 +1,9 @@
+-- `events::tick::blocked` meets its contract.
 use borrow.Author.Needs.{needs}
 use Rattle.events.specs.Events.{blockedIn}
 use Rattle.events.proofs.Laws.{to-blocked, to-collecting}
 use Rattle.events.proofs.tick.blocked.Statement.{statement}
 use Rattle.events.proofs.tick.blocked.Tie as tie
-use Rattle.events.proofs.tick.blocked.Reads as reads
-use Rattle.events.proofs.tick.blocked.Lts as lts
-use Rattle.events.proofs.tick.is_forward.Reads as is-forward-reads
 
 enum-known-phase : tie.Need-enum-known-phase
 enum-known-phase c = search needs

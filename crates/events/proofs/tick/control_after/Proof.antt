@@ -1,10 +1,8 @@
+-- `events::tick::control_after` meets its contract.
 use borrow.Author.Needs.{needs}
 use Rattle.events.specs.Events.{controlTicked}
 use Rattle.events.proofs.tick.control_after.Statement.{statement}
 use Rattle.events.proofs.tick.control_after.Tie as tie
-use Rattle.events.proofs.tick.control_after.Reads as reads
-use Rattle.events.proofs.tick.control_after.Lts as lts
-use Rattle.host.proofs.settled.Reads as settled-reads
 
 settled-requires : tie.Need-settled-requires
 settled-requires c κs = search needs

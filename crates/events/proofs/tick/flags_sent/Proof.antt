@@ -1,13 +1,10 @@
+-- `events::tick::flags_sent` meets its contract.
 use borrow.Author.Needs.{needs}
 use Rattle.events.specs.Events.{flagsSent}
 use Rattle.base.specs.Pick.{picks}
 use Rattle.events.proofs.Laws.{to-differs}
 use Rattle.events.proofs.tick.flags_sent.Statement.{statement}
 use Rattle.events.proofs.tick.flags_sent.Tie as tie
-use Rattle.events.proofs.tick.flags_sent.Reads as reads
-use Rattle.events.proofs.tick.flags_sent.Lts as lts
-use Rattle.events.proofs.tick.starved_flags.Reads as starved-flags-reads
-use Rattle.registers.proofs.raise.Reads as raise-reads
 
 starved-flags-requires : tie.Need-starved-flags-requires
 starved-flags-requires c κs = search needs

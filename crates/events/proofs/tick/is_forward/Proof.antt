@@ -1,10 +1,9 @@
+-- `events::tick::is_forward` meets its contract.
 use borrow.Author.Needs.{needs}
 use Rattle.events.specs.Events.{isForward}
 use Rattle.events.proofs.Laws.{to-forward}
 use Rattle.events.proofs.tick.is_forward.Statement.{statement}
 use Rattle.events.proofs.tick.is_forward.Tie as tie
-use Rattle.events.proofs.tick.is_forward.Reads as reads
-use Rattle.events.proofs.tick.is_forward.Lts as lts
 
 enum-told : tie.Need-enum-told
 enum-told c = search needs

@@ -1,10 +1,9 @@
+-- `events::tick::mark_after` meets its contract.
 use borrow.Author.Needs.{needs}
 use Rattle.events.specs.Events.{markAfter}
 use Rattle.base.specs.Pick.{picks}
 use Rattle.events.proofs.tick.mark_after.Statement.{statement}
 use Rattle.events.proofs.tick.mark_after.Tie as tie
-use Rattle.events.proofs.tick.mark_after.Reads as reads
-use Rattle.events.proofs.tick.mark_after.Lts as lts
 
 returns : tie.Need-returns
 unfolding markAfter

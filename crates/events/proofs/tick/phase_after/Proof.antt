@@ -1,11 +1,9 @@
+-- `events::tick::phase_after` meets its contract.
 use borrow.Author.Needs.{needs}
 use Rattle.events.specs.Events.{phaseAfter}
 use Rattle.base.specs.Pick.{picks}
 use Rattle.events.proofs.tick.phase_after.Statement.{statement}
 use Rattle.events.proofs.tick.phase_after.Tie as tie
-use Rattle.events.proofs.tick.phase_after.Reads as reads
-use Rattle.events.proofs.tick.phase_after.Lts as lts
-use Rattle.events.proofs.tick.blocked.Reads as blocked-reads
 
 blocked-requires : tie.Need-blocked-requires
 blocked-requires c κs = search needs

@@ -1,9 +1,8 @@
+-- `events::tick::same` meets its contract.
 use borrow.Author.Needs.{needs}
 use Rattle.events.proofs.Laws.{same-true, same-false}
 use Rattle.events.proofs.tick.same.Statement.{statement}
 use Rattle.events.proofs.tick.same.Tie as tie
-use Rattle.events.proofs.tick.same.Reads as reads
-use Rattle.events.proofs.tick.same.Lts as lts
 
 returns : tie.Need-returns
 returns c = search (needs, same-true, same-false)

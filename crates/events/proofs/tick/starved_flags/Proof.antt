@@ -1,11 +1,9 @@
+-- `events::tick::starved_flags` meets its contract.
 use borrow.Author.Needs.{needs}
 use Rattle.events.specs.Events.{starvedFlags}
 use Rattle.base.specs.Pick.{picks}
 use Rattle.events.proofs.tick.starved_flags.Statement.{statement}
 use Rattle.events.proofs.tick.starved_flags.Tie as tie
-use Rattle.events.proofs.tick.starved_flags.Reads as reads
-use Rattle.events.proofs.tick.starved_flags.Lts as lts
-use Rattle.registers.proofs.raise.Reads as raise-reads
 
 raise-requires : tie.Need-raise-requires
 raise-requires c κs = search needs

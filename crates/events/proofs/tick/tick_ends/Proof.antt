@@ -1,13 +1,8 @@
+-- `events::tick::tick_ends` meets its contract.
 use borrow.Author.Needs.{needs}
 use Rattle.events.specs.Events.{tickEnds}
 use Rattle.events.proofs.tick.tick_ends.Statement.{statement}
 use Rattle.events.proofs.tick.tick_ends.Tie as tie
-use Rattle.events.proofs.tick.tick_ends.Reads as reads
-use Rattle.events.proofs.tick.tick_ends.Lts as lts
-use Rattle.events.proofs.tick.control_after.Reads as control-after-reads
-use Rattle.events.proofs.tick.phase_after.Reads as phase-after-reads
-use Rattle.events.proofs.tick.tick_note.Reads as tick-note-reads
-use Rattle.events.proofs.tick.watched.Reads as watched-reads
 
 control-after-requires : tie.Need-control-after-requires
 control-after-requires c κs = search needs

@@ -1,10 +1,9 @@
+-- `events::tick::tick_note` meets its contract.
 use borrow.Author.Needs.{needs}
 use Rattle.events.specs.Events.{tickNote}
 use Rattle.base.specs.Pick.{picks}
 use Rattle.events.proofs.tick.tick_note.Statement.{statement}
 use Rattle.events.proofs.tick.tick_note.Tie as tie
-use Rattle.events.proofs.tick.tick_note.Reads as reads
-use Rattle.events.proofs.tick.tick_note.Lts as lts
 
 returns : tie.Need-returns
 unfolding tickNote

@@ -1,16 +1,10 @@
+-- `events::tick::ticked` meets its contract.
 use mathlib.Core.Path.{_≡_}
 use lib.ListN.{length, length-map}
 use borrow.Author.Needs.{needs}
 use Rattle.events.proofs.Turns.{tick-fit, to-ticked}
 use Rattle.events.proofs.tick.ticked.Statement.{statement}
 use Rattle.events.proofs.tick.ticked.Tie as tie
-use Rattle.events.proofs.tick.ticked.Reads as reads
-use Rattle.events.proofs.tick.ticked.Lts as lts
-use Rattle.events.proofs.tick.flags_sent.Reads as flags-sent-reads
-use Rattle.events.proofs.tick.tick_ends.Reads as tick-ends-reads
-use Rattle.reader.proofs.tick_reader.Reads as tick-reader-reads
-use Rattle.sender.proofs.may_start.Reads as may-start-reads
-use Rattle.sender.proofs.tick_sender.Reads as tick-sender-reads
 
 may-start-requires : tie.Need-may-start-requires
 may-start-requires c κs = search needs

@@ -1,11 +1,8 @@
+-- `events::tick::watched` meets its contract.
 use borrow.Author.Needs.{needs}
 use Rattle.events.specs.Events.{watched}
 use Rattle.events.proofs.tick.watched.Statement.{statement}
 use Rattle.events.proofs.tick.watched.Tie as tie
-use Rattle.events.proofs.tick.watched.Reads as reads
-use Rattle.events.proofs.tick.watched.Lts as lts
-use Rattle.events.proofs.tick.mark_after.Reads as mark-after-reads
-use Rattle.events.proofs.tick.same.Reads as same-reads
 
 same-requires : tie.Need-same-requires
 same-requires c κs = search needs
