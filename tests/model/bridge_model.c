@@ -9,7 +9,7 @@
  *        tick would give (used by make_scripts.py, which needs it for a loop-back)
  *
  * The section of 01 that a function follows is named above it; "points" is
- * open-points.md.
+ * docs/DECISIONS.md.
  */
 #include <stdbool.h>
 #include <stdint.h>

@@ -5,6 +5,8 @@ Meaningful random CWB scripts for the bridge of document 01, the same for the sa
 The SIN bits are mostly a loop-back of SOUT, so the C model is driven through a pipe
 (`bridge_model -i`), which also tells the SOUT bit of the next tick. Nothing the model says
 decides more than SIN bits and a few waits: a script is good for any other implementation.
+The environment variable BRIDGE_MODEL names a model already built; without it one is built
+beside this file.
 """
 import os
 import random
@@ -39,7 +41,7 @@ class Bench:
     """The model at the other end of a pipe; keeps the script."""
 
     def __init__(self, limit):
-        path = os.path.join(HERE, "bridge_model")
+        path = os.environ.get("BRIDGE_MODEL") or os.path.join(HERE, "bridge_model")
         if not os.path.exists(path):
             subprocess.check_call(["gcc", "-std=c11", "-O2", "-o", path, path + ".c"])
         self.proc = subprocess.Popen([path, "-i"], stdin=subprocess.PIPE,

@@ -1,0 +1,167 @@
+#!/usr/bin/env python3
+"""Turns a text into a script of the bench program (01 The bench program).
+
+    script.py FILE.txt > FILE.cwb      FILE `-` is standard input
+
+One event a line. `#` begins a comment, blank lines are skipped.
+
+    power good          power-up; `power bad` with bad OTP
+    word 2000           host word, four hex digits
+    release             chip select released
+    tick 1              line tick with SIN 1; `tick 0` with SIN 0
+    clock 5             clock reading, decimal, 0 to 65535
+
+Several events a line:
+
+    ticks 36            as many ticks with SIN 1, 1 to 65535
+    bits 0 1010 1       a tick for each SIN bit; spaces between bits mean nothing
+    frame 2000 AAF0     these host words, then their CRC word (01 Frames)
+    badframe 2000 AAF0  the same, the lowest bit of the CRC word turned
+    crc 2000 AAF0       the CRC word of these words alone, where a frame's words are written one by one
+    answer 3            as many host words FFFF, each fetches one answer word; 1 to 65535
+
+Any other text: `FILE:LINE: expected .., found ..` on standard error, exit status 1, nothing written.
+"""
+import binascii
+import re
+import sys
+
+HEAD = b"CWB\x00\x01"
+POWER, WORD, RELEASE, TICK, CLOCK = range(5)
+FILLER = 0xFFFF
+START = 0xFFFF
+
+
+class Refused(Exception):
+    """A line that is no event: what was expected, what was found."""
+
+
+def refuse(expected, found):
+    raise Refused("expected %s, found %s" % (expected, "`%s`" % " ".join(found) if found else "nothing"))
+
+
+def records(kind, values):
+    return b"".join(bytes([kind]) + value.to_bytes(2, "big") for value in values)
+
+
+def chosen(arguments, choices):
+    """The value of the one argument, a key of `choices`."""
+    if len(arguments) != 1 or arguments[0] not in choices:
+        refuse(" or ".join("`%s`" % name for name in choices), arguments)
+    return choices[arguments[0]]
+
+
+def decimal(arguments, least):
+    if len(arguments) != 1 or not re.fullmatch("[0-9]{1,5}", arguments[0]) or not least <= int(arguments[0]) <= 65535:
+        refuse("one decimal number from %d to 65535" % least, arguments)
+    return int(arguments[0])
+
+
+def hex_words(arguments):
+    if not arguments:
+        refuse("words of four hex digits", arguments)
+    for argument in arguments:
+        if not re.fullmatch("[0-9A-Fa-f]{4}", argument):
+            refuse("four hex digits", [argument])
+    return [int(argument, 16) for argument in arguments]
+
+
+def crc(words):
+    return binascii.crc_hqx(b"".join(word.to_bytes(2, "big") for word in words), START)
+
+
+def power(arguments):
+    return records(POWER, [chosen(arguments, {"good": 1, "bad": 0})])
+
+
+def word(arguments):
+    if len(arguments) != 1:
+        refuse("one word of four hex digits", arguments)
+    return records(WORD, hex_words(arguments))
+
+
+def release(arguments):
+    if arguments:
+        refuse("nothing after `release`", arguments)
+    return records(RELEASE, [0])
+
+
+def tick(arguments):
+    return records(TICK, [chosen(arguments, {"0": 0, "1": 1})])
+
+
+def clock(arguments):
+    return records(CLOCK, [decimal(arguments, 0)])
+
+
+def ticks(arguments):
+    return records(TICK, [1] * decimal(arguments, 1))
+
+
+def bits(arguments):
+    if not re.fullmatch("[01]+", "".join(arguments)):
+        refuse("bits 0 and 1", arguments)
+    return records(TICK, [int(bit) for bit in "".join(arguments)])
+
+
+def frame(arguments):
+    words = hex_words(arguments)
+    return records(WORD, words + [crc(words)])
+
+
+def badframe(arguments):
+    words = hex_words(arguments)
+    return records(WORD, words + [crc(words) ^ 1])
+
+
+def crc_alone(arguments):
+    return records(WORD, [crc(hex_words(arguments))])
+
+
+def answer(arguments):
+    return records(WORD, [FILLER] * decimal(arguments, 1))
+
+
+FORMS = {"power": power, "word": word, "release": release, "tick": tick, "clock": clock, "ticks": ticks,
+         "bits": bits, "frame": frame, "badframe": badframe, "crc": crc_alone, "answer": answer}
+
+
+def events(line):
+    """The records of one line."""
+    parts = line.split("#")[0].split()
+    if not parts:
+        return b""
+    if parts[0] not in FORMS:
+        refuse("an event (%s)" % ", ".join(FORMS), parts[:1])
+    return FORMS[parts[0]](parts[1:])
+
+
+def script(name, text):
+    made = [HEAD]
+    for number, line in enumerate(text.split("\n"), 1):
+        try:
+            made.append(events(line))
+        except Refused as refused:
+            sys.exit("%s:%d: %s" % (name, number, refused))
+    return b"".join(made)
+
+
+def read(name):
+    try:
+        if name == "-":
+            return sys.stdin.buffer.read()
+        with open(name, "rb") as file:
+            return file.read()
+    except OSError as error:
+        sys.exit("%s: %s" % (name, error.strerror))
+
+
+def main():
+    if len(sys.argv) != 2:
+        sys.exit(__doc__)
+    name = sys.argv[1]
+    sys.stdout.buffer.write(script(name, read(name).decode(errors="replace")))
+
+
+if __name__ == "__main__":
+    main()
