@@ -1,0 +1,118 @@
+-- The P rows of 01 Numbers on both sides: what the definitions give, and what 01 says. Assumes nothing.
+use mathlib.Core.Bool.{Bool, true, false}
+use mathlib.Core.List.{List, [], _∷_, _++_, map}
+use Prim.Native.Nat.{ℕ, zero, suc, _+_}
+use lib.ListN.{replicate}
+use Rattle.base.specs.Pick.{pick}
+use Rattle.crc16.specs.Crc.{crcOf}
+use Rattle.command.specs.Layouts.{ours}
+use Rattle.line.specs.Reader.{hear}
+use Rattle.line.specs.declared.Found.{Found}
+use Rattle.line.specs.declared.Found.the-variants.{Nothing, Start, Word as WordFound, End, CheckError, Over}
+use Rattle.registers.specs.Registers.{statusOf}
+use Rattle.state.specs.Notes.{noteNumber}
+use Rattle.state.specs.Power.{powerUp}
+use Rattle.events.specs.Turn.{Out}
+use Rattle.events.specs.declared.Event.{Event}
+use Rattle.events.specs.declared.Event.the-variants.{Power, Word, Release, Tick}
+use Rattle.bridge.specs.Step.{step}
+use Rattle.drain.specs.Drain.{drain}
+
+-- what the definitions give, what 01 says
+pub record Row : Type 0 where
+  pub gives : ℕ
+  pub says : ℕ
+
+abbrev pub row : ℕ → ℕ → Row
+row gives says = record { gives = gives; says = says }
+
+-- an event on the state and stores that the last one left
+unfoldable pub then : Out → Event → Out
+then o e = step ours (o .answer .state) (o .tx) (o .rx) e
+
+unfoldable pub after : Out → List Event → Out
+after o [] = o
+after o (e ∷ es) = after (then o e) es
+
+-- a power-up event, with stores of zeros
+unfoldable pub powerOn : Bool → Out
+powerOn good = step ours powerUp (replicate 512 0) (replicate 256 0) (Power good)
+
+-- a frame: its words, their CRC, chip select released
+unfoldable pub frame : List ℕ → List Event
+frame ws = map Word ws ++ (Word (crcOf ws) ∷ (Release ∷ []))
+
+-- the note of a command word from power-up
+unfoldable pub noteOf : ℕ → ℕ
+noteOf word = noteNumber (then (powerOn true) (Word word) .answer .note)
+
+unfoldable pub statusAfter : Out → ℕ
+statusAfter o = statusOf (o .answer .state .control)
+
+-- "after a clear": REG_WR of STATUS bit 15
+unfoldable pub onceCleared : Out
+onceCleared = after (powerOn true) (frame (0xB007 ∷ 0x8000 ∷ []))
+
+-- "then forced to failsafe": REG_WR of DEVCTRL bit 2
+unfoldable pub onceForced : Out
+onceForced = after onceCleared (frame (0xB005 ∷ 0x0004 ∷ []))
+
+-- POR cleared, then a command of this one word: FWD_WR_CRC
+unfoldable pub queued : ℕ → Out
+queued word = after onceCleared (frame (0x2000 ∷ word ∷ []))
+
+-- ticks with SIN 1 until it is sent
+unfoldable pub ticksOf : ℕ → ℕ
+ticksOf word = drain ours (queued word .answer .state) (queued word .tx) (queued word .rx) 100 .drained .ticks
+
+-- "looped straight back": a tick's SIN is its own SOUT, which does not wait for SIN
+unfoldable pub ownBit : Out → Bool
+ownBit o = then o (Tick true) .answer .sout
+
+unfoldable pub isEnd : Found → Bool
+isEnd Nothing = false
+isEnd Start = false
+isEnd (WordFound word) = false
+isEnd End = true
+isEnd CheckError = false
+isEnd Over = false
+
+-- whether the bridge's reader finds END at the next looped tick
+unfoldable pub endsNext : Out → Bool
+endsNext o = isEnd (hear (o .answer .state .receiving .reader .ear) (ownBit o) .found)
+
+-- the tick at which END is read, after so many; 0 where it is in none of the next `budget`
+unfoldable pub endFrom : ℕ → ℕ → Out → ℕ
+endFrom zero ticks o = 0
+endFrom (suc budget) ticks o = pick (endsNext o) (ticks + 1) (endFrom budget (ticks + 1) (then o (Tick (ownBit o))))
+
+unfoldable pub endTickOf : ℕ → ℕ
+endTickOf word = endFrom 100 0 (queued word)
+
+unfoldable pub table : List Row
+table =
+    row (crcOf []) 0xFFFF  -- "CRC of no words 0xFFFF"
+    ∷ row (crcOf (0xFFFF ∷ [])) 0x0000  -- "of 0xFFFF 0x0000"
+    ∷ row (crcOf (0xFFFE ∷ [])) 0x1021  -- "of 0xFFFE 0x1021"
+    ∷ row (crcOf (0xFFFD ∷ [])) 0x2042  -- "of 0xFFFD 0x2042"
+    ∷ row (noteOf 0x21FF) 0  -- "Word 0x21FF accepted"
+    ∷ row (noteOf 0x2200) 3  -- "0x2200 note 3"
+    ∷ row (noteOf 0xA00A) 0  -- "0xA00A accepted"
+    ∷ row (noteOf 0xA10A) 3  -- "0xA10A note 3"
+    ∷ row (noteOf 0xF000) 3  -- "0xF000 note 3"
+    ∷ row (statusAfter (powerOn true)) 0x0403  -- "STATUS 0x0403 at power-up"
+    ∷ row (statusAfter (powerOn false)) 0x041B  -- "0x041B with bad OTP"
+    ∷ row (statusAfter onceCleared) 0x0400  -- "0x0400 after a clear"
+    ∷ row (statusAfter onceForced) 0x0431  -- "0x0431 when then forced to failsafe"
+    ∷ row (ticksOf 0xAAF0) 36  -- "One word 0xAAF0 takes 36 ticks"
+    ∷ row (endTickOf 0xAAF0) 35  -- "looped straight back, END is read at tick 35"
+    ∷ row (endTickOf 0xAA0F) 36  -- "With 0xAA0F, at tick 36"
+    ∷ []
+
+unfoldable pub given : List Row → List ℕ
+given [] = []
+given (r ∷ rs) = r .gives ∷ given rs
+
+unfoldable pub said : List Row → List ℕ
+said [] = []
+said (r ∷ rs) = r .says ∷ said rs

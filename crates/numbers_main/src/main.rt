@@ -1,0 +1,96 @@
+// Runs the rows of 01 Numbers on both sides that no theorem states, and prints what it found.
+use events::Event;
+use libc::STDOUT_FILENO;
+use state::Bridge;
+use state::Clock;
+
+fn event(start: Bridge, tx: &mut [u16], rx: &mut [u16], event: Event) -> Bridge {
+    let answer = bridge::step(start, tx, rx, event);
+    answer.state
+}
+
+// A frame's CRC word, then chip select released.
+fn closed(start: Bridge, tx: &mut [u16], rx: &mut [u16], crc: u16) -> Bridge {
+    let checked = event(start, tx, rx, Event::Word(crc));
+    event(checked, tx, rx, Event::Release)
+}
+
+fn frame_of_one(start: Bridge, tx: &mut [u16], rx: &mut [u16], word: u16) -> Bridge {
+    let words = [word];
+    let open = event(start, tx, rx, Event::Word(word));
+    closed(open, tx, rx, crc16::crc_list(&words))
+}
+
+fn two_words(start: Bridge, tx: &mut [u16], rx: &mut [u16], first: u16, second: u16) -> Bridge {
+    let open = event(start, tx, rx, Event::Word(first));
+    event(open, tx, rx, Event::Word(second))
+}
+
+fn frame_of_two(start: Bridge, tx: &mut [u16], rx: &mut [u16], first: u16, second: u16) -> Bridge {
+    let words = [first, second];
+    let full = two_words(start, tx, rx, first, second);
+    closed(full, tx, rx, crc16::crc_list(&words))
+}
+
+// Power-up, then REG_WR of STATUS bit 15: POR is cleared, so that the sender may start.
+fn cleared(tx: &mut [u16], rx: &mut [u16]) -> Bridge {
+    frame_of_two(Bridge::good(), tx, rx, 0xB007, 0x8000)
+}
+
+fn print_number(before: &[u8], number: u64, after: &[u8]) {
+    io::write_all(STDOUT_FILENO, before);
+    io::print_decimal(STDOUT_FILENO, number);
+    io::write_all(STDOUT_FILENO, after);
+}
+
+// "No words, 3 extra ENDs": FWD_WR_END.
+fn ends_alone() {
+    let mut tx = [0u16; 512];
+    let mut rx = [0u16; 256];
+    let ready = cleared(&mut tx, &mut rx);
+    let queued = frame_of_one(ready, &mut tx, &mut rx, 0x5060);
+    let drained = drain::drain(queued, &mut tx, &mut rx, 1000);
+    print_number(
+        b"no words, 3 extra ENDs: ",
+        drained.ticks as u64,
+        b" ticks\n",
+    );
+}
+
+fn print_flag(bridge: Bridge) {
+    if bridge.control.flags.sin {
+        io::write_all(STDOUT_FILENO, b"SIN flag 1\n");
+        return;
+    }
+    io::write_all(STDOUT_FILENO, b"SIN flag 0\n");
+}
+
+// A clock reading, and the SIN flag after it.
+fn read_clock(start: Bridge, tx: &mut [u16], rx: &mut [u16], reading: u16) -> Bridge {
+    let after = event(start, tx, rx, Event::Clock(reading));
+    print_number(b"reading ", reading as u64, b": ");
+    print_flag(after);
+    after
+}
+
+fn print_mark(clock: Clock) {
+    print_number(b"mark ", clock.watch_mark as u64, b", ");
+}
+
+// "Mark 65,533": a start bit when that is the last reading, then readings past the wrap; SIN does not change.
+fn watch() {
+    let mut tx = [0u16; 512];
+    let mut rx = [0u16; 256];
+    let ready = cleared(&mut tx, &mut rx);
+    let read = event(ready, &mut tx, &mut rx, Event::Clock(65533));
+    let queued = frame_of_two(read, &mut tx, &mut rx, 0x2000, 0xAAF0);
+    let begun = event(queued, &mut tx, &mut rx, Event::Tick(true));
+    print_mark(begun.clock);
+    let first = read_clock(begun, &mut tx, &mut rx, 1);
+    read_clock(first, &mut tx, &mut rx, 2);
+}
+
+fn main() {
+    ends_alone();
+    watch();
+}
