@@ -125,7 +125,7 @@ ticked b sin w = tickHears b (tickSender (b .sending) (mayStart (b .control)) w)
 unfoldable pub elapsed : ℕ → ℕ → ℕ
 elapsed reading mark = (reading + 65536 - mark) % 65536
 
--- "at 5 or more the SIN flag rises and the watch stops". 01 The line
+-- "at 5 or more the SIN flag rises and the watch stops". 01 The line; 5 ms as 001 7.3.4.5.1
 abbrev pub watchFires : Clock → ℕ → Bool
 watchFires c reading = c .watching && leb 5 (elapsed reading (c .«watch_mark»))
 

@@ -46,7 +46,7 @@ bitSent StartWords s w = false
 bitSent StartEnds s w = true
 bitSent Stay s w = true
 
--- "If the first sent word is 0xAA00 to 0xAA0F or 0xAAF0". VSYNC is 0xAAF0; the FC writes are the sixteen from 0xAA00. 001 7.3.2
+-- "If the first sent word is 0xAA00 to 0xAA0F or 0xAAF0". VSYNC is 0xAAF0; the FC writes are the sixteen from 0xAA00. 001 7.3.4.6.2
 abbrev pub isHead : ℕ → Bool
 isHead w = (leb 0xAA00 w && leb w 0xAA0F) || eqb w 0xAAF0
 
