@@ -2,3 +2,4 @@ pub mod Pick
 pub mod Bits
 pub mod Table
 pub mod Unique
+pub mod Arms

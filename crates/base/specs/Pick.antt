@@ -61,4 +61,7 @@ pub and-r : (a b : Bool) → (a && b) ≡ true → b ≡ true
 and-r true b h = h
 and-r false b h = cc
 
+pub and-both : (a b : Bool) → a ≡ true → b ≡ true → (a && b) ≡ true
+and-both a b h k = rw (h, k)
+
 pub ruleset picks = (pick-true, pick-false, pick-told, pick-denied, pick-lt, pick-not-lt, pick-le, pick-not-le, pick-eq, pick-ne)

@@ -4,6 +4,7 @@ use Prim.Native.Nat.{ℕ, zero, suc, _/_, _%_, _≤_, _<_}
 use native.Mathlib.Omega.{arith}
 use native.Mathlib.Decide.{decLe}
 use lib.ListN.{List·getD-eq-default}
+use Rattle.base.specs.Arms.{past}
 use Rattle.base.specs.Pick.{pick, pick-ne}
 use Rattle.command.specs.declared.Command.{Command}
 use Rattle.command.specs.declared.Command.the-variants.{Malformed}
@@ -26,9 +27,6 @@ above low n h = sym (List·getD-eq-default (rows low) Malformed h)
 
 not-le : {n : ℕ} → (2 ≤ n → ⊥) → n < 2
 not-le p = omega arith
-
-past : {n : ℕ} (k : ℕ) → (n ≡ k → ⊥) → k ≤ n → suc k ≤ n
-past k h p = omega arith
 
 -- the last arm knows the numbers that it is not
 module _ (w : ℕ) (h : w ≡ 65535 → ⊥) (h2 : w / 4096 ≡ 2 → ⊥) (h3 : w / 4096 ≡ 3 → ⊥) (h4 : w / 4096 ≡ 4 → ⊥) (h5 : w / 4096 ≡ 5 → ⊥)

@@ -1,5 +1,6 @@
 mod Laws
 mod Turns
+mod Between
 pub mod Ticks
 pub mod Quiet
 pub mod Keeps

@@ -125,9 +125,13 @@ ticked b sin w = tickHears b (tickSender (b .sending) (mayStart (b .control)) w)
 unfoldable pub elapsed : ℕ → ℕ → ℕ
 elapsed reading mark = (reading + 65536 - mark) % 65536
 
--- "at 5 or more the SIN flag rises and the watch stops". 01 The line; 5 ms as 001 7.3.4.5.1
+-- milliseconds without a change of SIN: 01 The line; 001 7.3.4.5.1
+abbrev pub stillFor : ℕ
+stillFor = 5
+
+-- "at 5 or more the SIN flag rises and the watch stops"
 abbrev pub watchFires : Clock → ℕ → Bool
-watchFires c reading = c .watching && leb 5 (elapsed reading (c .«watch_mark»))
+watchFires c reading = c .watching && leb stillFor (elapsed reading (c .«watch_mark»))
 
 -- "at or over its limit NORMAL becomes FAILSAFE"; SPICTRL "bits 15..8 watchdog ms (0 off)"
 abbrev pub dogFires : Bridge → ℕ → Bool

@@ -1,5 +1,6 @@
 // One event (01 What the bridge is): what its rule does to the state, and the cells that it writes. Only this crate touches the stores.
 mod clock;
+mod passing;
 mod react;
 mod tick;
 
@@ -57,8 +58,8 @@ fn write_cell(cells: &mut [u16], ring: Ring, store: Store)
     }
 }
 
-// An event on stores of the right lengths and a record that obeys the rules.
-pub fn turn(bridge: Bridge, tx: &mut [u16], rx: &mut [u16], event: Event) -> Answer
+// The event's rule and the cells that it writes.
+fn whole_turn(bridge: Bridge, tx: &mut [u16], rx: &mut [u16], event: Event) -> Answer
     requires { ⌜ Ready bridge (now tx) (now rx) ⌝ }
     ensures { λ r. ⌜ out r (now (tx .exit)) (now (rx .exit)) ≡ turnOf ours bridge (now (tx .entry)) (now (rx .entry)) event ⌝ }
 {
@@ -79,4 +80,15 @@ pub fn turn(bridge: Bridge, tx: &mut [u16], rx: &mut [u16], event: Event) -> Ans
         sout: did.sout,
         note: note,
     }
+}
+
+// An event on stores of the right lengths and a record that obeys the rules.
+pub fn turn(bridge: Bridge, tx: &mut [u16], rx: &mut [u16], event: Event) -> Answer
+    requires { ⌜ Ready bridge (now tx) (now rx) ⌝ }
+    ensures { λ r. ⌜ out r (now (tx .exit)) (now (rx .exit)) ≡ turnOf ours bridge (now (tx .entry)) (now (rx .entry)) event ⌝ }
+{
+    if passing::passes(bridge, event) {
+        return passing::passed(bridge, event);
+    }
+    whole_turn(bridge, tx, rx, event)
 }

@@ -102,7 +102,7 @@ fn mark_after(clock: Clock, started: bool) -> u16
 }
 
 // A change of SIN stops the watch.
-fn watched(clock: Clock, started: bool, sin: bool) -> Clock
+pub fn watched(clock: Clock, started: bool, sin: bool) -> Clock
     ensures { λ r. ⌜ r ≡ watchedOf clock started sin ⌝ }
 {
     let steady = same(sin, clock.sin);

@@ -232,39 +232,11 @@ pub fn crc_due(bridge: Bridge, command: Command, mine: u16, blocked: bool, right
     }
 }
 
-// The data words between the command word and the CRC word.
-fn data_words(command: Command) -> u16
-    ensures { λ r. ⌜ r ≡ dataWords command ⌝ }
-{
-    match command {
-        Command::Filler => 0,
-        Command::Malformed => 0,
-        Command::Forward {
-            crc: _,
-            words,
-            ends: _,
-            reads: _,
-        } => words,
-        Command::DataRead { crc: _, words: _ } => 0,
-        Command::RegisterWrite {
-            crc: _,
-            address: _,
-            count,
-        } => count,
-        Command::RegisterRead {
-            crc: _,
-            address: _,
-            count: _,
-        } => 0,
-        Command::SoftReset => 0,
-    }
-}
-
 // Data words are still to come.
 pub fn is_due(command: Command, got: u16) -> bool
     ensures { λ r. ⌜ r ≡ ltb got (dataWords command) ⌝ }
 {
-    got < data_words(command)
+    got < state::data_words(command)
 }
 
 // Note 12: what becomes of a forward.

@@ -6,12 +6,11 @@ use native.Mathlib.Nat.{mod-lt}
 use native.Mathlib.Omega.{arith}
 use lib.Dec.{ltb, leb, eqb}
 use borrow.Author.Tests.{ltb-true, leb-true, lt-ltb, le-leb}
-use Rattle.base.specs.Pick.{pick-keeps, and-r}
+use Rattle.base.specs.Pick.{pick-keeps, and-r, and-both}
 use Rattle.command.specs.Layout.{write, writeEnds, readEnds, dataRead, registerWrite, registerRead, softReset, rows, byNumber, decodeOurs}
 use Rattle.command.specs.Layouts.{Layout, ours}
 use Rattle.command.specs.declared.Command.{Command}
 use Rattle.command.specs.declared.Command.the-variants.{Filler, Malformed, Forward, DataRead, RegisterWrite, RegisterRead, SoftReset}
-use Rattle.kept.proofs.Tests.{both}
 
 unfoldable pub commandFits : Command → Bool
 commandFits Filler = true
@@ -30,7 +29,7 @@ Fits c = commandFits c ≡ true
 
 forward-fits : (crc reads : Bool) (words ends : ℕ) → words ≤ 4096 → ends ≤ 127 → Fits (Forward crc words ends reads)
 unfolding commandFits
-forward-fits crc reads words ends w e = both _ _ (le-leb _ _ w) (le-leb _ _ e)
+forward-fits crc reads words ends w e = and-both _ _ (le-leb _ _ w) (le-leb _ _ e)
 
 write-fits : (crc : Bool) (most low : ℕ) → most ≤ 4096 → Fits (write crc most low)
 unfolding write commandFits
@@ -48,18 +47,18 @@ read-ends-fits crc low h = forward-fits crc true (low % 32 + 1) (low / 32) (omeg
 data-read-fits : (crc : Bool) (low : ℕ) → Fits (dataRead crc low)
 unfolding dataRead commandFits
 data-read-fits crc low =
-    pick-keeps Fits _ _ _ (λ k. let n : low < 256 = ltb-true _ _ k in both _ _ (lt-ltb 0 (low + 1) (omega arith)) (le-leb (low + 1) 256 (omega arith)))
+    pick-keeps Fits _ _ _ (λ k. let n : low < 256 = ltb-true _ _ k in and-both _ _ (lt-ltb 0 (low + 1) (omega arith)) (le-leb (low + 1) 256 (omega arith)))
     (λ k. refl)
 
 register-write-fits : (crc : Bool) (low : ℕ) → Fits (registerWrite crc low)
 unfolding registerWrite commandFits
 register-write-fits crc low =
-    pick-keeps Fits _ _ _ (λ k. both _ _ (lt-ltb 0 (low / 256 + 1) (omega arith)) (and-r (eqb (low / 16 % 16) 0) _ k)) (λ k. refl)
+    pick-keeps Fits _ _ _ (λ k. and-both _ _ (lt-ltb 0 (low / 256 + 1) (omega arith)) (and-r (eqb (low / 16 % 16) 0) _ k)) (λ k. refl)
 
 register-read-fits : (crc : Bool) (low : ℕ) → Fits (registerRead crc low)
 unfolding registerRead commandFits
 register-read-fits crc low =
-    pick-keeps Fits _ _ _ (λ k. both _ _ (lt-ltb 0 (low / 256 + 1) (omega arith)) (and-r (eqb (low / 16 % 16) 0) _ k)) (λ k. refl)
+    pick-keeps Fits _ _ _ (λ k. and-both _ _ (lt-ltb 0 (low / 256 + 1) (omega arith)) (and-r (eqb (low / 16 % 16) 0) _ k)) (λ k. refl)
 
 soft-reset-fits : (low : ℕ) → Fits (softReset low)
 unfolding softReset commandFits

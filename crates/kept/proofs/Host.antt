@@ -6,7 +6,7 @@ use Prim.Native.Nat.{ℕ, zero, suc, _+_, _-_, _≤_, _<_}
 use native.Mathlib.Omega.{arith}
 use lib.Dec.{ltb, leb, eqb}
 use borrow.Author.Tests.{ltb-true, ltb-false, leb-true, leb-false, eqb-true, eqb-false, not-true, not-false, lt-ltb, le-ltb, le-leb}
-use Rattle.base.specs.Pick.{pick, pick-keeps, and-l, and-r}
+use Rattle.base.specs.Pick.{pick, pick-keeps, and-l, and-r, and-both}
 use Rattle.command.specs.Layouts.{Layout}
 use Rattle.command.specs.declared.Command.{Command}
 use Rattle.command.specs.declared.Command.the-variants.{Filler, Malformed, Forward, DataRead, RegisterWrite, RegisterRead, SoftReset}
@@ -37,7 +37,6 @@ use Rattle.kept.proofs.Fits.{commandFits, LayoutFit}
 use Rattle.kept.proofs.Forward.{Leaves, ForwardFit, forward-facts, word-goes, begun-goes, closed-goes}
 use Rattle.kept.proofs.Perform.{PlanRules, performed-keeps}
 use Rattle.kept.specs.Rules.{SendRules, BridgeRules}
-use Rattle.kept.proofs.Tests.{both}
 use Rattle.kept.proofs.Owed.{unreleased-owes-none}
 
 -- 1. What the tests of a frame say.
@@ -331,14 +330,14 @@ module _ (b : Bridge) (g : regsSound (b .control .regs) ≡ true) where
           (λ e. wrong-rules crc mine k (λ c. unqueued-has-none crc words ends got mine released blocked f h (rw c)))
       go (DataRead crc words) k s h =
           read-closed-rules l crc right (Data words) (bare (search (and-l, and-r)) k)
-          (both (ltb 0 words) (leb words 256) (search (and-l, and-r)) (search (and-l, and-r)))
+          (and-both (ltb 0 words) (leb words 256) (search (and-l, and-r)) (search (and-l, and-r)))
       go (RegisterWrite crc address count) k s h =
           let m : eqb mine 0 ≡ true = search (and-l, and-r) in
           pick-keeps (PlanRules b) right _ _ (λ e. registers-closed-rules crc address count (bare m k))
           (λ e. wrong-rules crc mine k (λ c. eqb-true mine 0 m))
       go (RegisterRead crc address count) k s h =
           read-closed-rules l crc right (Registers address count) (bare (search (and-l, and-r)) k)
-          (both (ltb 0 count) (leb (address + count) 11) (search (and-l, and-r)) (search (and-l, and-r)))
+          (and-both (ltb 0 count) (leb (address + count) 11) (search (and-l, and-r)) (search (and-l, and-r)))
       go SoftReset k s h =
           let m : eqb mine 0 ≡ true = search (and-l, and-r) in
           pick-keeps (PlanRules b) right _ _ (λ e. reset-closed-rules (bare m k)) (λ e. wrong-rules true mine k (λ c. eqb-true mine 0 m))
@@ -356,7 +355,7 @@ module _ (b : Bridge) (g : regsSound (b .control .regs) ≡ true) where
       = pick-keeps (λ (q : Reply). replySound q ≡ true) (leb left 1) Check (Data (left - 1)) (λ h. refl)
       (λ h. let n : 1 < left = leb-false _ _ h in
       let k : left ≤ 256 = leb-true _ _ (search (and-l, and-r)) in
-      both _ _ (lt-ltb 0 (left - 1) (omega arith)) (le-leb (left - 1) 256 (omega arith))) in
+      and-both _ _ (lt-ltb 0 (left - 1) (omega arith)) (le-leb (left - 1) 256 (omega arith))) in
       pick-keeps (PlanRules b) _ _ _ (λ h. record { leaves = stays (b .sending) _ r (bare-answer _ _ next); regs = g; ending = λ e. cc })
       (λ h. record { leaves = stays (b .sending) _ r (bare-answer _ _ next); regs = g; ending = λ e. cc })
   answered-rules l (Registers address left) sum x r s =
@@ -364,7 +363,7 @@ module _ (b : Bridge) (g : regsSound (b .control .regs) ≡ true) where
       = pick-keeps (λ (q : Reply). replySound q ≡ true) (leb left 1) Check (Registers (address + 1) (left - 1)) (λ h. refl)
       (λ h. let n : 1 < left = leb-false _ _ h in
       let k : address + left ≤ 11 = leb-true _ _ (search (and-l, and-r)) in
-      both _ _ (lt-ltb 0 (left - 1) (omega arith)) (le-leb (address + 1 + (left - 1)) 11 (omega arith))) in
+      and-both _ _ (lt-ltb 0 (left - 1) (omega arith)) (le-leb (address + 1 + (left - 1)) 11 (omega arith))) in
       record { leaves = stays (b .sending) _ r (bare-answer _ _ next); regs = g; ending = λ e. cc }
   answered-rules l Check sum x r s = record { leaves = stays (b .sending) Idle r bare-idle; regs = g; ending = λ e. cc }
 

@@ -8,7 +8,7 @@ use lib.Dec.{ltb}
 use lib.ListN.{length, take, drop, getD, set, length-drop, length-set, List·getD-eq-default}
 use lib.Seq.{drop-cons, take-suc, length-take-le, drop-set-add, drop-set-lt, take-suc-set, getD-take, getD-drop, ext-getD}
 use borrow.Author.Tests.{ltb-true, ltb-false, lt-ltb, le-ltb}
-use Rattle.base.specs.Pick.{pick, pick-keeps, and-l, and-r}
+use Rattle.base.specs.Pick.{pick, pick-keeps, and-l, and-r, and-both}
 use Rattle.rules.specs.Sound.{lastLeft, allSome}
 use Rattle.state.specs.Facts.{QueueFit}
 use Rattle.state.specs.Queue.{noPlace, placeAt, withPlace, queued, begunOne, emptiedQueue, waiting, wordsOf, moved, freed, isDone, returned}
@@ -16,7 +16,6 @@ use Rattle.state.specs.declared.Place.{Place}
 use Rattle.state.specs.declared.Queue.{Queue}
 use Rattle.state.specs.declared.Returned.{Returned}
 use Rattle.state.specs.declared.Sending.{Sending}
-use Rattle.kept.proofs.Tests.{both}
 
 -- a queued command waits behind the others
 pub waiting-queued : (q : Queue) (p : Place) → QueueFit q → length (q .places) ≡ 8 → q .used < 8 → waiting (queued q p) ≡ waiting q ++ (p ∷ [])
@@ -269,7 +268,7 @@ words-emptied q = rw (waiting-emptied q)
 some-of-snoc : (ps : List Place) (p : Place) → allSome ps ≡ true → 0 < p .words + p .ends → allSome (ps ++ (p ∷ [])) ≡ true
 unfolding allSome
 some-of-snoc [] p a h = rw (lt-ltb _ _ h)
-some-of-snoc (x ∷ ps) p a h = both (ltb 0 (x .words + x .ends)) _ (and-l _ (allSome ps) a) (some-of-snoc ps p (and-r (ltb 0 (x .words + x .ends)) _ a) h)
+some-of-snoc (x ∷ ps) p a h = and-both (ltb 0 (x .words + x .ends)) _ (and-l _ (allSome ps) a) (some-of-snoc ps p (and-r (ltb 0 (x .words + x .ends)) _ a) h)
 
 pub some-queued : (q : Queue) (p : Place) → QueueFit q → length (q .places) ≡ 8 → q .used < 8 → allSome (waiting q) ≡ true → 0 < p .words + p .ends
     → allSome (waiting (queued q p)) ≡ true

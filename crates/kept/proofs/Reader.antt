@@ -6,7 +6,7 @@ use native.Mathlib.Omega.{arith}
 use lib.Dec.{leb, eqb}
 use lib.ListN.{length}
 use borrow.Author.Tests.{ltb-true, eqb-false, lt-ltb, le-leb}
-use Rattle.base.specs.Pick.{pick-keeps, and-r}
+use Rattle.base.specs.Pick.{pick-keeps, and-r, and-both}
 use Rattle.line.specs.Reader.{heard, runOn, shiftIn, atCheck, inGroup, inLost, hear}
 use Rattle.line.specs.declared.Ear.{Ear}
 use Rattle.line.specs.declared.Ear.the-variants.{Quiet, Group, Lost}
@@ -22,7 +22,6 @@ use Rattle.state.specs.Queue.{claimed}
 use Rattle.state.specs.declared.Queue.{Queue}
 use Rattle.state.specs.declared.Receiving.{Receiving}
 use Rattle.state.specs.declared.Returned.{Returned}
-use Rattle.kept.proofs.Tests.{both}
 use Rattle.kept.proofs.Queue.{Kept, kept-same, kept-marked, kept-returned}
 
 -- the place that a command read belongs to has begun
@@ -91,7 +90,7 @@ lost-sound ones f h = lt-ltb ones 18 h
 
 group-sound : (value bits ones : ℕ) (f : Found) → bits ≤ 17 → ones < 18 → EarKept (heard (Group value bits ones) f)
 unfolding earSound
-group-sound value bits ones f b h = both _ _ (le-leb bits 17 b) (lt-ltb ones 18 h)
+group-sound value bits ones f b h = and-both _ _ (le-leb bits 17 b) (lt-ltb ones 18 h)
 
 quiet-sound : (f : Found) → EarKept (heard Quiet f)
 unfolding earSound

@@ -24,7 +24,7 @@ pub struct Taken {
     pub ended: bool,
 }
 
-fn with_ear(receiving: Receiving, ear: Ear) -> Receiving
+pub fn with_ear(receiving: Receiving, ear: Ear) -> Receiving
     ensures { λ r. ⌜ r ≡ withEar receiving ear ⌝ }
 {
     let rx = receiving.rx;

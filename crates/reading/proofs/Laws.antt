@@ -6,6 +6,7 @@ use native.Mathlib.Nat.{pow-le-pow-right, zero-lt-suc}
 use native.Mathlib.Omega.{arith}
 use native.Mathlib.Decide.{decLe}
 use lib.ListN.{List·getD-eq-default}
+use Rattle.base.specs.Arms.{past}
 use Rattle.base.specs.Bits.{bit, flag}
 use Rattle.base.specs.Pick.{pick, pick-true, pick-false, pick-told}
 use Rattle.registers.specs.declared.Register.{Register}
@@ -29,9 +30,6 @@ flag-up k b h e = let l : 2 ^ k < 65536 = place-lt k h in rw e (omega arith)
 pub flag-down : (k : ℕ) (b : Bool) → b ≡ false → 0 ≡ flag k b
 unfolding flag
 flag-down k b e = rw e refl
-
-past : {n : ℕ} (k : ℕ) → (n ≡ k → ⊥) → k ≤ n → suc k ≤ n
-past k h p = omega arith
 
 module _ (c : Control) (t r a : ℕ) where
   -- an arm knows the number

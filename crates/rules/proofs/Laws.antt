@@ -81,45 +81,6 @@ rest-none q i h = let z : q .used - i ≡ 0 = omega arith in rw z
 rest-past : (q : Queue) (i : ℕ) → length (q .places) ≤ i → rest q i ≡ []
 rest-past q i h = rw (drop-of-length-le (q .places) h, take-nil)
 
--- the sum so far, with the places still to count, is that of all that wait
-pub record Summed (q : Queue) (sum i : ℕ) : Type 0 where
-  pub long : length (q .places) ≡ 8
-  pub most : sum ≤ 65535 * i
-  pub small : sum ≤ 524280
-  pub still : sum + wordsOf (rest q i) ≡ wordsOf (waiting q)
-
-pub none-summed : (q : Queue) → length (q .places) ≡ 8 → Summed q 0 (q .begun)
-unfolding waiting
-none-summed q l = record { long = l; most = omega arith; small = omega arith; still = omega arith }
-
-module _ (q : Queue) (sum i : ℕ) (v : Summed q sum i) where
-  pub one-summed : (w used : ℕ) → w ≡ placeAt q i .words → w < 65536 → i < 8 → used ≡ q .used → i < used → Summed q (sum + w) (i + 1)
-  unfolding wordsOf
-  one-summed w used e m l u h =
-      let k : i < length (q .places) = omega (arith, v .long) in
-      let g : i < q .used = omega arith in
-      let o : wordsOf (rest q i) ≡ placeAt q i .words + wordsOf (rest q (i + 1)) = rw (rest-one q i k g) in
-      record { long = v .long; most = omega arith; small = omega arith; still = omega (arith, v .still) }
-
-  ended : rest q i ≡ [] → sum ≡ wordsOf (waiting q)
-  unfolding wordsOf
-  ended e = let o : wordsOf (rest q i) ≡ 0 = rw e in omega (arith, v .still)
-
-  pub all-summed : (used : ℕ) → used ≡ q .used → used ≤ i → sum ≡ wordsOf (waiting q)
-  all-summed used u h = ended (rest-none q i (omega arith))
-
-  pub past-summed : 8 ≤ i → sum ≡ wordsOf (waiting q)
-  past-summed h = ended (rest-past q i (omega (arith, v .long)))
-
--- the test so far, with that of the places still to test, is that of all that wait
-pub record Tested (q : Queue) (all : Bool) (i : ℕ) : Type 0 where
-  pub long : length (q .places) ≡ 8
-  pub still : (all && allSome (rest q i)) ≡ allSome (waiting q)
-
-pub none-tested : (q : Queue) → length (q .places) ≡ 8 → Tested q true (q .begun)
-unfolding waiting
-none-tested q l = record { long = l; still = refl }
-
 and-again : (a b c : Bool) → ((a && b) && c) ≡ (a && (b && c))
 and-again true b c = refl
 and-again false b c = refl
@@ -128,21 +89,46 @@ and-end : (a : Bool) → (a && true) ≡ a
 and-end true = refl
 and-end false = refl
 
-module _ (q : Queue) (all : Bool) (i : ℕ) (v : Tested q all i) where
-  pub one-tested : (t : Bool) (used : ℕ) → t ≡ ltb 0 (placeAt q i .words + placeAt q i .ends) → i < 8 → used ≡ q .used → i < used → Tested q (all && t) (i + 1)
-  unfolding allSome
-  one-tested t used e l u h =
+-- the sum and the test so far, with those of the places still to come, are those of all that wait
+pub record Counted (q : Queue) (words : ℕ) (some : Bool) (i : ℕ) : Type 0 where
+  pub long : length (q .places) ≡ 8
+  pub most : words ≤ 65535 * i
+  pub small : words ≤ 524280
+  pub sum : words + wordsOf (rest q i) ≡ wordsOf (waiting q)
+  pub test : (some && allSome (rest q i)) ≡ allSome (waiting q)
+
+pub none-counted : (q : Queue) → length (q .places) ≡ 8 → Counted q 0 true (q .begun)
+unfolding waiting
+none-counted q l = record { long = l; most = omega arith; small = omega arith; sum = omega arith; test = refl }
+
+module _ (q : Queue) (words : ℕ) (some : Bool) (i : ℕ) (v : Counted q words some i) where
+  pub one-counted : (p : Place) (used : ℕ) → p ≡ placeAt q i → p .words < 65536 → i < 8 → used ≡ q .used → i < used
+      → Counted q (words + p .words) (some && ltb 0 (p .words + p .ends)) (i + 1)
+  unfolding wordsOf allSome
+  one-counted p used e m l u h =
       let k : i < length (q .places) = omega (arith, v .long) in
       let g : i < q .used = omega arith in
-      let o : allSome (rest q i) ≡ (t && allSome (rest q (i + 1))) = rw (rest-one q i k g, e) in
-      record { long = v .long; still = and-again all t (allSome (rest q (i + 1))) ∙ rw o at (v .still) }
+      let r : rest q i ≡ p ∷ rest q (i + 1) = rw e (rest-one q i k g) in
+      let o : wordsOf (rest q i) ≡ p .words + wordsOf (rest q (i + 1)) = rw r in
+      let t : allSome (rest q i) ≡ (ltb 0 (p .words + p .ends) && allSome (rest q (i + 1))) = rw r in
+      record {
+        long = v .long;
+        most = omega (arith, v .most);
+        small = omega (arith, v .most);
+        sum = omega (arith, v .sum);
+        test = and-again some (ltb 0 (p .words + p .ends)) (allSome (rest q (i + 1))) ∙ rw t at (v .test);
+      }
 
-  tested : rest q i ≡ [] → all ≡ allSome (waiting q)
+  pub all-counted : (used : ℕ) → used ≡ q .used → used ≤ i → rest q i ≡ []
+  all-counted used u h = rest-none q i (omega arith)
+
+  pub past-counted : 8 ≤ i → rest q i ≡ []
+  past-counted h = rest-past q i (omega (arith, v .long))
+
+  pub summed : rest q i ≡ [] → words ≡ wordsOf (waiting q)
+  unfolding wordsOf
+  summed e = let o : wordsOf (rest q i) ≡ 0 = rw e in omega (arith, v .sum)
+
+  pub tested : rest q i ≡ [] → some ≡ allSome (waiting q)
   unfolding allSome
-  tested e = sym (and-end all) ∙ rw e at (v .still)
-
-  pub all-tested : (used : ℕ) → used ≡ q .used → used ≤ i → all ≡ allSome (waiting q)
-  all-tested used u h = tested (rest-none q i (omega arith))
-
-  pub past-tested : 8 ≤ i → all ≡ allSome (waiting q)
-  past-tested h = tested (rest-past q i (omega (arith, v .long)))
+  tested e = sym (and-end some) ∙ rw e at (v .test)

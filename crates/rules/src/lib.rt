@@ -1,11 +1,11 @@
 // The record rules (01 Notes, note 2), as a test. It asks nothing of the state, so sums are taken in 32 bits.
 ghost use mathlib.Core.Path.{_≡_};
 ghost use mathlib.Core.Bool.{_||_};
-ghost use Prim.Native.Nat.{_+_, _≤_, _<_};
-ghost use lib.Dec.{ltb, leb};
+ghost use Prim.Native.Nat.{_+_, _≤_};
+ghost use lib.Dec.{leb};
 ghost use Rattle.base.specs.Pick.{pick};
 ghost use Rattle.state.specs.Queue.{placeAt, waiting, wordsOf};
-ghost use Rattle.state.specs.Frame.{dataWords, mineOf, owedBy, toCome, forwardSound, collectSound, replySound, phaseSound};
+ghost use Rattle.state.specs.Frame.{mineOf, owedBy, toCome, forwardSound, collectSound, replySound, phaseSound};
 ghost use Rattle.rules.specs.Sound.{ringSound, placeSound, placesSound, queueSound, senderSound, earSound, lastLeft, ledger as ledgerOf, allSome, sound as soundOf};
 use command::Command;
 use line::Ear;
@@ -161,33 +161,6 @@ fn phase_sound(phase: Phase) -> bool
     }
 }
 
-fn data_words(command: Command) -> u16
-    ensures { λ r. ⌜ r ≡ dataWords command ⌝ }
-{
-    match command {
-        Command::Filler => 0,
-        Command::Malformed => 0,
-        Command::Forward {
-            crc: _,
-            words,
-            ends: _,
-            reads: _,
-        } => words,
-        Command::DataRead { crc: _, words: _ } => 0,
-        Command::RegisterWrite {
-            crc: _,
-            address: _,
-            count,
-        } => count,
-        Command::RegisterRead {
-            crc: _,
-            address: _,
-            count: _,
-        } => 0,
-        Command::SoftReset => 0,
-    }
-}
-
 fn mine_of(phase: Phase) -> u16
     ensures { λ r. ⌜ r ≡ mineOf phase ⌝ }
 {
@@ -210,7 +183,7 @@ fn mine_of(phase: Phase) -> u16
 fn owed_by(command: Command, got: u16, released: bool, blocked: bool) -> u16
     ensures { λ r. ⌜ r ≡ owedBy command got released blocked ⌝ }
 {
-    let words = data_words(command);
+    let words = state::data_words(command);
     if released & !blocked {
         if got < words {
             return words - got;
@@ -246,46 +219,36 @@ fn words_at(queue: Queue, i: u16) -> u16
     0
 }
 
-// The words of the places not yet begun. A broken state's `used` may pass the last place.
-fn waiting_words(queue: Queue) -> u32
-    ensures { λ r. ⌜ (r ≡ wordsOf (waiting queue)) × (r ≤ 524280) ⌝ }
+// What the places not yet begun have to send: their words, and whether each has words or ENDs.
+struct Waits {
+    words: u32,
+    some: bool,
+}
+
+// A broken state's `used` may pass the last place.
+fn what_waits(queue: Queue) -> Waits
+    ensures { λ r. ⌜ (r .words ≡ wordsOf (waiting queue)) × ((r .words ≤ 524280) × (r .some ≡ allSome (waiting queue))) ⌝ }
 {
     let used = queue.used;
-    let mut sum: u32 = 0;
+    let mut words: u32 = 0;
+    let mut some = true;
     let mut i = queue.begun;
     while i < used {
         if 8 <= i {
-            return sum;
+            return Waits {
+                words: words,
+                some: some,
+            };
         }
-        sum = sum + words_at(queue, i) as u32;
+        let place = queue.places[i as usize];
+        words = words + place.words as u32;
+        some = some & (0 < place.words as u32 + place.ends as u32);
         i = i + 1;
     }
-    sum
-}
-
-fn some_at(queue: Queue, i: u16) -> bool
-    requires { ⌜ i < 8 ⌝ }
-    ensures { λ r. ⌜ r ≡ ltb 0 (placeAt queue i .words + placeAt queue i .ends) ⌝ }
-{
-    let place = queue.places[i as usize];
-    0 < place.words as u32 + place.ends as u32
-}
-
-// Whether each place not yet begun has words or ENDs to send.
-fn waiting_some(queue: Queue) -> bool
-    ensures { λ r. ⌜ r ≡ allSome (waiting queue) ⌝ }
-{
-    let used = queue.used;
-    let mut all = true;
-    let mut i = queue.begun;
-    while i < used {
-        if 8 <= i {
-            return all;
-        }
-        all = all & some_at(queue, i);
-        i = i + 1;
+    Waits {
+        words: words,
+        some: some,
     }
-    all
 }
 
 fn last_left(sending: Sending) -> u16
@@ -298,12 +261,13 @@ fn last_left(sending: Sending) -> u16
     sending.sender.left
 }
 
-fn ledger(sending: Sending, phase: Phase) -> bool
+fn ledger(sending: Sending, phase: Phase, waiting_words: u32) -> bool
+    requires { ⌜ («waiting_words» ≡ wordsOf (waiting (sending .queue))) × («waiting_words» ≤ 524280) ⌝ }
     ensures { λ r. ⌜ r ≡ ledgerOf sending phase ⌝ }
 {
     let due = to_come(phase);
     let held = sending.tx.count as u32 + due as u32;
-    let taken = sending.sender.left as u32 + waiting_words(sending.queue) + mine_of(phase) as u32;
+    let taken = sending.sender.left as u32 + waiting_words + mine_of(phase) as u32;
     (held == taken) & (due <= last_left(sending))
 }
 
@@ -318,6 +282,7 @@ pub fn sound(bridge: Bridge) -> bool
     let ear = reader.ear;
     let frame = bridge.frame;
     let phase = frame.phase;
+    let waits = what_waits(sending.queue);
     ring_sound(sending.tx, 512)
         & ring_sound(receiving.rx, 256)
         & registers::regs_sound(control.regs)
@@ -325,6 +290,6 @@ pub fn sound(bridge: Bridge) -> bool
         & sender_sound(sending.sender)
         & ear_sound(ear)
         & phase_sound(phase)
-        & ledger(sending, phase)
-        & waiting_some(sending.queue)
+        & ledger(sending, phase, waits.words)
+        & waits.some
 }

@@ -3,6 +3,7 @@ use mathlib.Core.Path.{_≡_, refl, sym, _∙_, ap}
 use mathlib.Core.Bool.{Bool, true, false}
 use Prim.Native.Nat.{ℕ, suc, _-_, _≤_, zero-le}
 use native.Mathlib.Omega.{arith}
+use Rattle.base.specs.Arms.{past}
 use Rattle.script.specs.declared.Record.{Record}
 use Rattle.script.specs.declared.Record.the-variants.{Bad}
 use Rattle.script.specs.Script.{recordOf, sign}
@@ -10,9 +11,6 @@ use Rattle.script.specs.Script.{recordOf, sign}
 -- an arm knows the kind
 pub to-kind : (kind value k : ℕ) (x : Record) → kind ≡ k → x ≡ recordOf k value → x ≡ recordOf kind value
 to-kind kind value k x e f = f ∙ ap (λ (n : ℕ). recordOf n value) (sym e)
-
-past : {n : ℕ} (k : ℕ) → (n ≡ k → ⊥) → k ≤ n → suc k ≤ n
-past k h p = omega arith
 
 beyond : (kind value : ℕ) → 5 ≤ kind → Bad ≡ recordOf kind value
 unfolding recordOf

@@ -1,5 +1,6 @@
 // The bridge's record (01 What the bridge is), in sub-records by the rule that changes them. Counts are narrow: the whole is below 256 bytes.
 ghost use mathlib.Core.Path.{_≡_};
+ghost use Rattle.state.specs.Frame.{dataWords};
 ghost use Rattle.state.specs.Notes.{noteNumber};
 ghost use Rattle.state.specs.Power.{powerUp, powerUpBad};
 
@@ -263,5 +264,33 @@ pub fn number(note: Note) -> u16
         Note::TxEmpty => 13,
         Note::RxFull => 14,
         Note::RxEmpty => 15,
+    }
+}
+
+// The data words between a frame's command word and its CRC word.
+pub fn data_words(command: Command) -> u16
+    ensures { λ r. ⌜ r ≡ dataWords command ⌝ }
+{
+    match command {
+        Command::Filler => 0,
+        Command::Malformed => 0,
+        Command::Forward {
+            crc: _,
+            words,
+            ends: _,
+            reads: _,
+        } => words,
+        Command::DataRead { crc: _, words: _ } => 0,
+        Command::RegisterWrite {
+            crc: _,
+            address: _,
+            count,
+        } => count,
+        Command::RegisterRead {
+            crc: _,
+            address: _,
+            count: _,
+        } => 0,
+        Command::SoftReset => 0,
     }
 }

@@ -6,6 +6,7 @@ use native.Mathlib.Nat.{pow-le-pow-right, zero-lt-suc}
 use native.Mathlib.Omega.{arith}
 use native.Mathlib.Decide.{decLe}
 use lib.ListN.{List·getD-eq-default}
+use Rattle.base.specs.Arms.{past}
 use Rattle.base.specs.Bits.{bit, flag}
 use Rattle.base.specs.Pick.{pick, pick-true, pick-false, pick-told}
 use Rattle.registers.specs.declared.Register.{Register}
@@ -33,9 +34,6 @@ to-cleared c v b f x e h k l = pick-told b _ x _ _ e h (l ∙ ap (λ (g : Flags)
 pub no-row : (a : ℕ) → 11 ≤ a → 0 ≡ rowOf a .writable
 unfolding table
 no-row a h = ap (λ (r : Register). r .writable) (sym (List·getD-eq-default table (row 0 0) h))
-
-past : {n : ℕ} (k : ℕ) → (n ≡ k → ⊥) → k ≤ n → suc k ≤ n
-past k h p = omega arith
 
 none : {n : ℕ} → (1 ≤ n → ⊥) → n ≡ 0
 none h = omega arith

@@ -1,35 +1,21 @@
 -- `events::turn` meets its contract.
 use borrow.Author.Needs.{needs}
-use Rattle.events.proofs.Turns.{ready-fit, ready-tx, ready-rx, tx-head, rx-head, to-turn}
+use Rattle.events.proofs.Turns.{ready-fit}
+use Rattle.events.proofs.Between.{told, to-short}
 use Rattle.events.proofs.turn.Statement.{statement}
 use Rattle.events.proofs.turn.Tie as tie
 
-cast-tx-head : tie.Need-cast-tx-head
-cast-tx-head c = search needs
+passes-requires : tie.Need-passes-requires
+passes-requires c κs = search (needs, ready-fit)
 
-cast-rx-head : tie.Need-cast-rx-head
-cast-rx-head c = search needs
+passed-requires : tie.Need-passed-requires
+passed-requires c κs = search (needs, ready-fit, told)
 
-mul-react : tie.Need-mul-react
-mul-react c = search needs
+returns : tie.Need-returns
+returns c = search (needs, to-short)
 
-slice-read-react : tie.Need-slice-read-react
-slice-read-react c = search (needs, tx-head)
-
-mul-react-2 : tie.Need-mul-react-2
-mul-react-2 c = search needs
-
-slice-read-react-2 : tie.Need-slice-read-react-2
-slice-read-react-2 c = search (needs, rx-head)
-
-react-requires : tie.Need-react-requires
-react-requires c κs = search (needs, ready-fit, ready-tx, ready-rx, tx-head, rx-head, to-turn)
-
-write-cell-requires : tie.Need-write-cell-requires
-write-cell-requires c κs = search (needs, ready-fit, ready-tx, ready-rx, tx-head, rx-head, to-turn)
-
-write-cell-requires-2 : tie.Need-write-cell-requires-2
-write-cell-requires-2 c κs = search (needs, ready-fit, ready-tx, ready-rx, tx-head, rx-head, to-turn)
+whole-turn-requires : tie.Need-whole-turn-requires
+whole-turn-requires c κs = search needs
 
 same-length : tie.Need-same-length
 same-length c = search needs
@@ -37,22 +23,17 @@ same-length c = search needs
 same-length-2 : tie.Need-same-length-2
 same-length-2 c = search needs
 
-returns : tie.Need-returns
-returns c = search (needs, ready-fit, ready-tx, ready-rx, tx-head, rx-head, to-turn)
+returns-2 : tie.Need-returns-2
+returns-2 c = search needs
 
 pub turn-spec : {M : Type 1} → statement M
 turn-spec =
     tie.close
     (tie.spec
-    cast-tx-head
-    cast-rx-head
-    mul-react
-    slice-read-react
-    mul-react-2
-    slice-read-react-2
-    react-requires
-    write-cell-requires
-    write-cell-requires-2
+    passes-requires
+    passed-requires
+    returns
+    whole-turn-requires
     same-length
     same-length-2
-    returns)
+    returns-2)

@@ -17,9 +17,6 @@ add-held c = search needs
 cast-taken : tie.Need-cast-taken
 cast-taken c = search needs
 
-waiting-words-requires : tie.Need-waiting-words-requires
-waiting-words-requires c κs = search needs
-
 add-taken : tie.Need-add-taken
 add-taken c = search needs
 
@@ -47,7 +44,6 @@ ledger-spec =
     cast-held-2
     add-held
     cast-taken
-    waiting-words-requires
     add-taken
     mine-of-requires
     cast-taken-2

@@ -2,6 +2,9 @@ use borrow.Author.Needs.{needs}
 use Rattle.rules.proofs.sound.Statement.{statement}
 use Rattle.rules.proofs.sound.Tie as tie
 
+what-waits-requires : tie.Need-what-waits-requires
+what-waits-requires c κs = search needs
+
 ring-sound-requires : tie.Need-ring-sound-requires
 ring-sound-requires c κs = search needs
 
@@ -26,9 +29,6 @@ phase-sound-requires c κs = search needs
 ledger-requires : tie.Need-ledger-requires
 ledger-requires c κs = search needs
 
-waiting-some-requires : tie.Need-waiting-some-requires
-waiting-some-requires c κs = search needs
-
 returns : tie.Need-returns
 returns c = cc
 
@@ -36,6 +36,7 @@ pub sound-spec : {M : Type 1} → statement M
 sound-spec =
     tie.close
     (tie.spec
+    what-waits-requires
     ring-sound-requires
     ring-sound-requires-2
     regs-sound-requires
@@ -44,5 +45,4 @@ sound-spec =
     ear-sound-requires
     phase-sound-requires
     ledger-requires
-    waiting-some-requires
     returns)

@@ -1,0 +1,161 @@
+// The bridge's speed: the events of a script, round after round, one event a call (`step`) or with a drain at the end of each round
+// (`drain`). Prints how much was done and a sum of all answers, which the plain C program of the same rules must print too
+// (tests/speed/measure.py).
+use events::Event;
+use libc::STDIN_FILENO;
+use libc::STDOUT_FILENO;
+use script::Record;
+use state::Bridge;
+ghost use Prim.Native.Nat.{_≤_};
+
+// What was done so far: the state, events and ticks, and the sum of their answers.
+struct Ran {
+    bridge: Bridge,
+    done: u64,
+    sum: u32,
+}
+
+// The ticks of a drain at most; every script that a round holds needs fewer.
+const BUDGET: u32 = 1000000;
+
+fn mixed(sum: u32, said: u32) -> u32 {
+    ((sum as u64 * 31 + said as u64) % 4294967296) as u32
+}
+
+fn sign(bit: bool) -> u32 {
+    if bit { 1 } else { 0 }
+}
+
+fn one_more(n: u64) -> u64 {
+    std::num::wrapping_add_u64(n, 1)
+}
+
+fn stepped(ran: Ran, tx: &mut [u16], rx: &mut [u16], event: Event) -> Ran {
+    let answer = bridge::step(ran.bridge, tx, rx, event);
+    let note = answer.note;
+    let said = mixed(
+        mixed(answer.sdo as u32, state::number(note) as u32),
+        sign(answer.sout),
+    );
+    let after = answer.state;
+    Ran {
+        bridge: after,
+        done: one_more(ran.done),
+        sum: mixed(ran.sum, said),
+    }
+}
+
+fn drained(ran: Ran, tx: &mut [u16], rx: &mut [u16]) -> Ran {
+    let answer = drain::drain(ran.bridge, tx, rx, BUDGET);
+    let note = answer.note;
+    let said = mixed(answer.ticks, state::number(note) as u32);
+    let after = answer.state;
+    Ran {
+        bridge: after,
+        done: std::num::wrapping_add_u64(ran.done, answer.ticks as u64),
+        sum: mixed(ran.sum, said),
+    }
+}
+
+// A record that is no event is passed over.
+fn one(ran: Ran, tx: &mut [u16], rx: &mut [u16], kind: u8, value: u16) -> Ran {
+    let Record::Good(event) = script::read(kind, value) else {
+        return ran;
+    };
+    stepped(ran, tx, rx, event)
+}
+
+fn round(start: Ran, tx: &mut [u16], rx: &mut [u16], records: &[u8]) -> Ran {
+    let mut ran = start;
+    let mut i: usize = 0;
+    while i + 3 <= records.len() {
+        let next = i + 3;
+        let value = script::value(records[i + 1], records[i + 2]);
+        ran = one(ran, tx, rx, records[i], value);
+        i = next;
+    }
+    ran
+}
+
+fn whole(start: Ran, tx: &mut [u16], rx: &mut [u16], records: &[u8], drains: bool) -> Ran {
+    let ran = round(start, tx, rx, records);
+    if drains {
+        return drained(ran, tx, rx);
+    }
+    ran
+}
+
+fn rounds(records: &[u8], many: u32, drains: bool) -> Ran {
+    let mut tx = [0u16; 512];
+    let mut rx = [0u16; 256];
+    let mut ran = Ran {
+        bridge: Bridge::good(),
+        done: 0,
+        sum: 0,
+    };
+    let mut left = many;
+    while left > 0 {
+        ran = whole(ran, &mut tx, &mut rx, records, drains);
+        left = left - 1;
+    }
+    ran
+}
+
+// The digit's value, or 10 where it is none.
+fn digit(byte: u8) -> u32
+    ensures { λ r. ⌜ r ≤ 10 ⌝ }
+{
+    if byte < 0x30 {
+        return 10;
+    }
+    if 0x39 < byte {
+        return 10;
+    }
+    (byte - 0x30) as u32
+}
+
+// A decimal number, cut off above a million.
+fn number(text: &[u8]) -> u32 {
+    let mut n: u32 = 0;
+    let mut i: usize = 0;
+    while i < text.len() {
+        let next = digit(text[i]);
+        if 9 < next {
+            return n;
+        }
+        if 100000 < n {
+            return n;
+        }
+        n = n * 10 + next;
+        i = i + 1;
+    }
+    n
+}
+
+fn print(ran: Ran) {
+    io::print_decimal(STDOUT_FILENO, ran.done);
+    io::write_all(STDOUT_FILENO, b" done, sum ");
+    io::print_hex(STDOUT_FILENO, ran.sum as u64, 8);
+    io::write_all(STDOUT_FILENO, b"\n");
+}
+
+fn is_drain(mode: &[u8]) -> bool {
+    if mode.len() == 0 {
+        return false;
+    }
+    mode[0] == 0x64
+}
+
+// ROUNDS MODE: how often, and whether each round ends in a drain.
+fn main() {
+    let mut records = io::large_buffer();
+    let mut head = [0u8; 5];
+    io::read_full(STDIN_FILENO, &mut head);
+    let n = io::read_full(STDIN_FILENO, &mut records);
+    let mut word = io::buffer();
+    let length = os::arg(1, &mut word);
+    let many = number(&word[..length]);
+    let mode_length = os::arg(2, &mut word);
+    let drains = is_drain(&word[..mode_length]);
+    print(rounds(&records[..n], many, drains));
+}

@@ -1,0 +1,88 @@
+#!/usr/bin/env python3
+"""Holds docs/HOST-GUIDE.md to its examples (examples/host), and those to both programs.
+
+guide.py    `guide: N frames of the guide stand in its T texts`, or what is wrong and exit status 1
+
+Every [name] of the guide is a text and every text is named; every frame with a CRC word in the guide has the right one and stands in a run;
+where the guide's table of commands gives an answer, that run has it; on all texts together the bench program and the independent program
+(model/) print the same.
+"""
+import pathlib
+import re
+import subprocess
+import sys
+import tempfile
+
+TESTS = pathlib.Path(__file__).resolve().parent
+sys.path.insert(0, str(TESTS / "model"))
+from make_scripts import POWER, WORD, crc16  # noqa: E402
+from pair import built_model, difference  # noqa: E402
+
+ROOT = TESTS.parent
+GUIDE = (ROOT / "docs/HOST-GUIDE.md").read_text()
+HEAD = b"CWB\x00\x01"
+HEX = r"(?:[0-9A-F]{4} ?)+"
+
+
+def words(text):
+    return [int(word, 16) for word in text.split()]
+
+
+def frames():
+    """Frames of the guide: host words with the CRC word at the end, and the answer where it is given."""
+    for sent, crc, answer in re.findall(rf"`({HEX})` \*\*`([0-9A-F]{{4}})`\*\*(?:[^|`\n]*\| `({HEX})` \|)?", GUIDE):
+        yield words(sent) + words(crc), words(answer)
+    for sent in re.findall(rf"`({HEX})` \+ \d", GUIDE):
+        yield words(sent), []
+
+
+def scripts():
+    for text in sorted((ROOT / "examples/host").glob("*.txt")):
+        made = subprocess.check_output([sys.executable, ROOT / "tools/script.py", text])
+        yield text.stem, made[len(HEAD):]
+
+
+def heard(lines):
+    """The host's words of a run, each with the SDO word beside it."""
+    return [(int(part[1], 16), int(part[3], 16)) for part in map(str.split, lines.splitlines()) if int(part[0]) == WORD]
+
+
+def stands(frame, answer, run):
+    size = len(frame) + len(answer)
+    for i in range(len(run) - size + 1):
+        if [word for word, _ in run[i:i + len(frame)]] == frame and [sdo for _, sdo in run[i + len(frame):i + size]] == answer:
+            return True
+    return False
+
+
+def wrong(model, texts):
+    named = set(re.findall(r"\[([a-z][a-z-]+)\]", GUIDE))
+    yield from (f"no text: {name}" for name in named - texts.keys())
+    yield from (f"not named in the guide: {name}" for name in texts.keys() - named)
+    runs = [heard(subprocess.run([model], input=HEAD + script, capture_output=True, check=True).stdout.decode()) for script in texts.values()]
+    for frame, answer in frames():
+        shown = " ".join(f"{word:04X}" for word in frame)
+        if crc16(frame[:-1]) != frame[-1]:
+            yield f"wrong CRC word: {shown}"
+        elif not any(stands(frame, answer, run) for run in runs):
+            yield f"in no run: {shown}, answer {answer}"
+
+
+def main():
+    texts = dict(scripts())
+    with tempfile.TemporaryDirectory() as folder:
+        work = pathlib.Path(folder)
+        model = built_model(work)
+        bad = list(wrong(model, texts))
+        power_up = bytes((POWER, 0, 1))
+        found = difference(work, model, HEAD + b"".join(power_up + script for script in texts.values()))
+    if found:
+        bad.append(f"the programs differ\n{found}")
+    if bad:
+        print(*bad, sep="\n")
+        sys.exit("guide: it does not hold")
+    print(f"guide: {len(list(frames()))} frames of the guide stand in its {len(texts)} texts")
+
+
+if __name__ == "__main__":
+    main()

@@ -1,0 +1,108 @@
+#!/usr/bin/env python3
+"""The bridge's speed beside a plain C program of the same rules that tests the same record rules (plain.c), in one run.
+
+measure.py    needs the proved program (`rt check speed`), gcc, and an x86-64 machine, where both run natively
+
+Each workload runs in both programs by turns, nine times; the least user time of each counts. Both print how much was done and a sum of all
+answers; they must print the same. Nanoseconds are for one event, or for one tick of a drain.
+"""
+import os
+import pathlib
+import platform
+import resource
+import subprocess
+import sys
+import tempfile
+
+HERE = pathlib.Path(__file__).resolve().parent
+OURS = HERE.parents[1] / "target/bin/speed"
+sys.path.insert(0, str(HERE.parent / "model"))
+from make_scripts import POWER, WORD, RELEASE, TICK, CLOCK, crc16  # noqa: E402
+
+HEAD = b"CWB\x00\x01"
+ROUND = 65535 // 3  # the events that crates/speed takes of a script
+TIMES = 9
+
+
+def event(kind, value=0):
+    return bytes((kind, value >> 8, value & 255))
+
+
+def frame(words):
+    return b"".join(event(WORD, word) for word in [*words, crc16(words)]) + event(RELEASE)
+
+
+def forwards(commands, words):
+    """So many FWD_WR_CRC of so many words each."""
+    return b"".join(frame([0x2000 | words - 1] + [(1000 * i + 77 * j) & 0xFFFF for j in range(words)]) for i in range(commands))
+
+
+CLEAR_POR = frame([0xB007, 0x8000])
+POWER_UP = event(POWER, 1)
+FULL = POWER_UP + CLEAR_POR + forwards(8, 64)  # all eight places and all of TX
+
+
+def steady(before, kind, value):
+    """A state that stands still under the events measured: POR is up, so that nothing begins."""
+    return POWER_UP + before + event(kind, value) * (ROUND - len(POWER_UP + before) // 3)
+
+
+def random_script(work):
+    made = subprocess.check_output([sys.executable, HERE.parent / "model/make_scripts.py", "1", str(ROUND)])
+    return made[len(HEAD):]
+
+
+def timed(program, rounds, mode, script):
+    before = resource.getrusage(resource.RUSAGE_CHILDREN).ru_utime
+    said = subprocess.run([program, str(rounds), mode], stdin=open(script, "rb"), capture_output=True, check=True, text=True).stdout
+    return resource.getrusage(resource.RUSAGE_CHILDREN).ru_utime - before, said
+
+
+def measured(work, plain, name, rounds, mode, records):
+    script = work / "script.cwb"
+    script.write_bytes(HEAD + records)
+    best = {OURS: 1e9, plain: 1e9}
+    for _ in range(TIMES):
+        said = set()
+        for program in best:
+            seconds, text = timed(program, rounds, mode, script)
+            best[program] = min(best[program], seconds)
+            said.add(text)
+        if len(said) != 1:
+            sys.exit(f"speed: {name}: the programs differ: {said}")
+    done = int(text.split()[0])
+    ours, theirs = (1e9 * best[program] / done for program in (OURS, plain))
+    print(f"{name:58} {done:>9} {ours:7.1f} {theirs:7.1f} {ours / theirs:6.2f}", flush=True)
+
+
+def main():
+    if platform.machine() != "x86_64":
+        sys.exit("speed: both programs are measured natively on x86-64 only")
+    with tempfile.TemporaryDirectory() as folder:
+        work = pathlib.Path(folder)
+        plain = work / "plain"
+        subprocess.check_call(["gcc", "-std=c11", "-O2", "-o", plain, HERE / "plain.c"])
+        os.environ["BRIDGE_MODEL"] = str(work / "bridge_model")
+        subprocess.check_call(["gcc", "-std=c11", "-O2", "-o", os.environ["BRIDGE_MODEL"], HERE.parent / "model/bridge_model.c"])
+        print(f"{'workload':58} {'done':>9} {'ours ns':>7} {'C ns':>7} {'ratio':>6}")
+        ticks = FULL + event(TICK, 1) * 9000
+        workloads = [
+            ("step: random events of all kinds", 100, "step", random_script(work)),
+            ("step: eight commands of 64 words, then ticks", 200, "step", ticks),
+            ("drain: the same, drained", 200, "drain", FULL),
+            ("step: the ticks again, a tenth as many rounds", 20, "step", ticks),
+            ("step: ticks, queue and TX empty", 100, "step", steady(b"", TICK, 1)),
+            ("step: ticks, 1 place, 1 word in TX", 100, "step", steady(forwards(1, 1), TICK, 1)),
+            ("step: ticks, 8 places, 8 words in TX", 100, "step", steady(forwards(8, 1), TICK, 1)),
+            ("step: ticks, 8 places, 512 words in TX", 100, "step", steady(forwards(8, 64), TICK, 1)),
+            ("step: host words, queue and TX empty", 100, "step", steady(b"", WORD, 0xFFFF)),
+            ("step: host words, 8 places, 512 words in TX", 100, "step", steady(forwards(8, 64), WORD, 0xFFFF)),
+            ("step: clock readings, queue and TX empty", 100, "step", steady(b"", CLOCK, 7)),
+            ("step: clock readings, 8 places, 512 words in TX", 100, "step", steady(forwards(8, 64), CLOCK, 7)),
+        ]
+        for workload in workloads:
+            measured(work, plain, *workload)
+
+
+if __name__ == "__main__":
+    main()

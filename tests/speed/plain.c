@@ -1,0 +1,214 @@
+/*
+ * plain.c - the plain C program that the bridge's speed is measured beside.
+ *
+ *   plain ROUNDS step|drain < script.cwb
+ *
+ * The rules are those of ../model/bridge_model.c, which changes its state in place. Added here: the record
+ * rules of docs/RECORD-RULES.md, tested before every event and once before a drain, as the bridge does, and a
+ * table for the CRC. Prints what the bridge's own program prints (crates/speed): how much was done, and a sum
+ * of all answers.
+ */
+#include <stdint.h>
+#include <stdlib.h>
+
+/* The CRC of each byte, for crc_step. */
+static uint16_t crc_of[256];
+
+static void make_table(void)
+{
+    for (unsigned byte = 0; byte < 256; byte++) {
+        unsigned crc = byte << 8;
+        for (int bit = 0; bit < 8; bit++)
+            crc = crc & 0x8000 ? crc << 1 ^ 0x1021 : crc << 1;
+        crc_of[byte] = (uint16_t)crc;
+    }
+}
+
+static uint16_t crc_byte(uint16_t crc, unsigned byte)
+{
+    return (uint16_t)(crc << 8 ^ crc_of[crc >> 8 ^ byte]);
+}
+
+static uint16_t crc_step(uint16_t crc, uint16_t word)
+{
+    return crc_byte(crc_byte(crc, word >> 8), word & 0xFF);
+}
+
+#define OWN_CRC_STEP
+#define main model_main
+#include "../model/bridge_model.c"
+#undef main
+
+enum { WORDS_MOST = 4096, ENDS_MOST = 127, ROUND_BYTES = 65536, BUDGET = 1000000 };
+
+static bool ring_holds(const struct ring *r, unsigned size)
+{
+    return r->size == size && r->head < size && r->count <= size;
+}
+
+static bool registers_hold(const struct bridge *b)
+{
+    return (b->spictrl & ~0xFF01u) == 0 && (b->diagmask & ~0x0B01u) == 0 && b->tx_level < TX_SIZE
+        && b->rx_level < RX_SIZE;
+}
+
+/* The words that places not yet begun will take; -1 where a place breaks a rule. */
+static long waiting_words(const struct bridge *b)
+{
+    long sum = 0;
+    if (b->places > PLACES)
+        return -1;
+    for (unsigned i = 0; i < PLACES; i++)
+        if (b->place[i].words > WORDS_MOST || b->place[i].ends > ENDS_MOST)
+            return -1;
+    for (unsigned i = 0; i < b->places; i++) {
+        const struct place *p = &b->place[i];
+        if (p->begun)
+            continue;
+        if (p->words + p->ends == 0)
+            return -1;
+        sum += p->words;
+    }
+    return sum;
+}
+
+static bool sender_holds(const struct sender *s)
+{
+    return s->bit <= GROUP_BITS && s->words_left <= WORDS_MOST && s->ones_left <= END_BITS * (ENDS_MOST + 1u);
+}
+
+static bool reader_holds(const struct reader *r)
+{
+    return r->mode == READ_IDLE || (r->bit <= GROUP_BITS && r->run < END_BITS);
+}
+
+static bool forward_holds(const struct frame *f)
+{
+    bool due = named_crc(&f->cmd) || f->released || f->blocked || f->came < f->cmd.data || f->cmd.data == 0;
+    bool own = f->released || f->blocked || f->stored == f->came;
+    return f->came <= f->cmd.data && f->cmd.data <= WORDS_MOST && f->cmd.ends <= ENDS_MOST && own && due
+        && !(f->released && named_crc(&f->cmd));
+}
+
+static bool collect_holds(const struct frame *f)
+{
+    if (is_forward(&f->cmd))
+        return forward_holds(f);
+    if (f->stored != 0 || f->released)
+        return false;
+    if (f->cmd.number == 8 || f->cmd.number == 9)
+        return f->came == 0 && f->cmd.reads > 0 && f->cmd.reads <= RX_SIZE;
+    if (f->cmd.number == 10 || f->cmd.number == 11)
+        return f->came <= f->cmd.data && f->cmd.data > 0 && f->cmd.address + f->cmd.data <= REGISTERS;
+    if (f->cmd.number == 12 || f->cmd.number == 13)
+        return f->came == 0 && f->cmd.reads > 0 && f->cmd.address + f->cmd.reads <= REGISTERS;
+    return f->cmd.number == 14 && f->came == 0;
+}
+
+/* `left` counts the CRC word too. */
+static bool answer_holds(const struct frame *f)
+{
+    if (f->cmd.reads == 0)
+        return f->left >= 1 && f->left <= 2;
+    if (f->cmd.number <= 9)
+        return f->left >= 1 && f->left <= RX_SIZE + 1;
+    return f->left >= 1 && f->cmd.address + f->left - 1 <= REGISTERS;
+}
+
+static bool frame_holds(const struct frame *f)
+{
+    switch (f->phase) {
+    case COLLECT: return collect_holds(f);
+    case ANSWER:  return answer_holds(f);
+    default:      return true;
+    }
+}
+
+/* Every word of TX has a command that will take it, and only the youngest place can starve. */
+static bool ledger_holds(const struct bridge *b)
+{
+    const struct frame *f = &b->frame;
+    const struct sender *s = &b->sender;
+    bool forward = f->phase == COLLECT && is_forward(&f->cmd);
+    bool owes = forward && f->released && !f->blocked;
+    long to_come = owes ? (long)f->cmd.data - (long)f->came : 0;
+    long mine = forward && !f->released && !f->blocked ? (long)f->stored : 0;
+    long sending_now = s->mode == SEND_WORDS ? (long)s->words_left - (s->bit > 0) : 0;
+    long waiting = waiting_words(b);
+    if (waiting < 0)
+        return false;
+    bool waits = b->places > 0 && !b->place[b->places - 1].begun;
+    long last = waits ? (long)b->place[b->places - 1].words : sending_now;
+    return (long)b->tx.count + to_come == sending_now + waiting + mine && to_come <= last;
+}
+
+static bool rules_hold(const struct bridge *b)
+{
+    return ring_holds(&b->tx, TX_SIZE) && ring_holds(&b->rx, RX_SIZE) && registers_hold(b) && sender_holds(&b->sender)
+        && reader_holds(&b->reader) && frame_holds(&b->frame) && ledger_holds(b);
+}
+
+/* One event as the bridge's `step` does it: the record rules first. */
+static struct result checked_step(struct bridge *b, unsigned kind, uint16_t value)
+{
+    struct result refused = { 2, 0xFFFF, 1 };
+    return rules_hold(b) ? step(b, kind, value) : refused;
+}
+
+static bool at_rest(const struct bridge *b)
+{
+    return !sending(b) && place_to_begin(b) < 0;
+}
+
+/* 01 "The line", draining. */
+static unsigned drain(struct bridge *b, unsigned budget, int *note)
+{
+    unsigned ticks = 0;
+    *note = DONE;
+    if (!rules_hold(b)) {
+        *note = 2;
+        return 0;
+    }
+    while (ticks < budget && *note == DONE && !at_rest(b)) {
+        *note = step(b, 3, 1).note;
+        ticks++;
+    }
+    return ticks;
+}
+
+static uint32_t mixed(uint32_t sum, uint32_t said)
+{
+    return sum * 31u + said;
+}
+
+int main(int argc, char **argv)
+{
+    static struct bridge b;
+    static unsigned char records[ROUND_BYTES];
+    unsigned long long done = 0;
+    uint32_t sum = 0;
+    if (argc != 3 || !good_head(stdin)) {
+        fputs("use: plain ROUNDS step|drain < script.cwb\n", stderr);
+        return 2;
+    }
+    long rounds = atol(argv[1]);
+    bool drains = argv[2][0] == 'd';
+    size_t n = fread(records, 1, sizeof records, stdin);
+    make_table();
+    power_up(&b, true);
+    while (rounds-- > 0) {
+        for (size_t i = 0; i + 3 <= n; i += 3) {
+            struct result r = checked_step(&b, records[i], (uint16_t)(records[i + 1] << 8 | records[i + 2]));
+            sum = mixed(sum, mixed(mixed(r.sdo, (uint32_t)r.note), r.sout));
+            done++;
+        }
+        if (drains) {
+            int note;
+            unsigned ticks = drain(&b, BUDGET, &note);
+            sum = mixed(sum, mixed(ticks, (uint32_t)note));
+            done += ticks;
+        }
+    }
+    printf("%llu done, sum %08x\n", done, (unsigned)sum);
+    return 0;
+}
