@@ -53,6 +53,9 @@ to-passes b e v x h k = rw h k
 pub to-heard : (b : Bridge) (h k : Heard) (x : Bool) → h ≡ k → x ≡ passesBy b (h .found) → x ≡ passesBy b (k .found)
 to-heard b h k x e f = rw (← e) f
 
+pub to-rests : (s : Sending) (may m r : Bool) → may ≡ m → r ≡ rests s may → r ≡ rests s m
+to-rests s may m r e h = rw (← e) h
+
 -- a test that denies
 denied : (c x : Bool) → pick c false x ≡ true → c ≡ false
 unfolding pick
@@ -74,6 +77,10 @@ unfolding pick
 rest-of true x h = h
 rest-of false x h = cc
 
+and-first : (a b : Bool) → (a && b) ≡ false → b ≡ true → a ≡ false
+and-first true b h k = sym k ∙ h
+and-first false b h k = refl
+
 and-none : (a b : Bool) → b ≡ false → (a && b) ≡ false
 and-none true b h = h
 and-none false b h = refl
@@ -86,10 +93,10 @@ module _ (s : Sending) (may : Bool) where
       let l : s .sender .gone + 1 < pieceLength (s .sender .piece) = ltb-true _ _ h in
       sym (pick-lt (s .sender .gone) (pieceLength (s .sender .piece)) GoOn _ _ (omega arith) refl)
 
-  stays : rests s ≡ true → choose s may ≡ Stay
+  stays : rests s may ≡ true → choose s may ≡ Stay
   unfolding choose
   stays h =
-      let u : s .queue .used ≤ s .queue .begun = ltb-false _ _ (denied _ _ h) in
+      let u : may ≡ true → s .queue .used ≤ s .queue .begun = λ k. ltb-false _ _ (and-first _ _ (denied _ _ h) k) in
       let i : idle (s .sender) ≡ true = allowed _ _ (allowed _ _ h) in
       let g : pieceLength (s .sender .piece) ≤ s .sender .gone = leb-true _ _ (search (and-l, and-r)) in
       let l : s .sender .left ≡ 0 = eqb-true _ _ (search (and-l, and-r)) in
@@ -98,7 +105,7 @@ module _ (s : Sending) (may : Bool) where
       (pick-not-lt (s .sender .gone) (pieceLength (s .sender .piece)) Stay _ _ g
       (pick-not-lt 0 (s .sender .left) Stay _ _ (omega arith)
       (pick-not-lt 0 (s .sender .ends) Stay _ _ (omega arith)
-      (pick-keeps (λ (n : Next). Stay ≡ n) may _ _ (λ k. pick-not-lt (s .queue .begun) (s .queue .used) Stay _ _ u refl) (λ k. refl)))))
+      (pick-keeps (λ (n : Next). Stay ≡ n) may _ _ (λ k. pick-not-lt (s .queue .begun) (s .queue .used) Stay _ _ (u k) refl) (λ k. refl)))))
 
 -- the sender's half, where no place is begun or sent
 abbrev moved : Next → Sending → ℕ → Sending
@@ -118,10 +125,10 @@ module _ (s : Sending) (may : Bool) (w : ℕ) where
       let z : leb (pieceLength (s .sender .piece)) (s .sender .gone + 1) ≡ false = lt-leb _ _ l in
       sym (pick-false _ _ _ _ (rw z) refl)
 
-  none-over : rests s ≡ true → finished (moved Stay s w) ≡ unsent (s .queue)
+  none-over : rests s may ≡ true → finished (moved Stay s w) ≡ unsent (s .queue)
   unfolding finished
   none-over h =
-      let u : underWay (s .queue) ≡ false = denied _ (idle (s .sender)) (allowed (ltb (s .queue .begun) (s .queue .used)) _ h) in
+      let u : underWay (s .queue) ≡ false = denied _ (idle (s .sender)) (allowed (ltb (s .queue .begun) (s .queue .used) && may) _ h) in
       let z : (idle (senderAfter Stay s w) && underWay (s .queue)) ≡ false = and-none (idle (senderAfter Stay s w)) _ u in
       let r : Returned = returned (s .queue) (s .queue .begun - 1) (placeSent (placeAt (s .queue) (s .queue .begun - 1))) in
       sym (pick-false (idle (senderAfter Stay s w) && underWay (s .queue)) (unsent (s .queue)) r (unsent (s .queue)) z refl)
@@ -130,7 +137,7 @@ module _ (s : Sending) (may : Bool) (w : ℕ) where
   unfolding tickSender sentBy advanced isStarve isStart
   sent-on h = rw (goes-on s may h, not-over h) refl
 
-  sent-none : rests s ≡ true → tickSender s may w ≡ plain Stay s w
+  sent-none : rests s may ≡ true → tickSender s may w ≡ plain Stay s w
   unfolding tickSender sentBy advanced isStarve isStart
   sent-none h = rw (stays s may h, none-over h) refl
 
@@ -168,7 +175,7 @@ heard-none Over h = cc
 abbrev goes : Sender → Next
 goes s = pick (inPiece s) GoOn Stay
 
-sent-by : (s : Sending) (may : Bool) (w : ℕ) (c : Bool) → inPiece (s .sender) ≡ c → pick c true (rests s) ≡ true
+sent-by : (s : Sending) (may : Bool) (w : ℕ) (c : Bool) → inPiece (s .sender) ≡ c → pick c true (rests s may) ≡ true
     → tickSender s may w ≡ plain (pick c GoOn Stay) s w
 unfolding pick
 sent-by s may w true e h = sent-on s may w e

@@ -1,6 +1,6 @@
 -- Which ticks `events::turn` answers by a short way. No rule: what such a tick does is what `turn` says of it; proofs/Between.antt shows that
 -- the short way gives that.
-use mathlib.Core.Bool.{Bool, true, false}
+use mathlib.Core.Bool.{Bool, true, false, _&&_}
 use Prim.Native.Nat.{ℕ, _+_}
 use lib.Dec.{ltb}
 use Rattle.base.specs.Pick.{pick}
@@ -8,6 +8,7 @@ use Rattle.line.specs.Format.{pieceLength}
 use Rattle.line.specs.Reader.{hear}
 use Rattle.line.specs.declared.Found.{Found}
 use Rattle.line.specs.declared.Found.the-variants.{Nothing, Start, Word as WordFound, End, CheckError, Over}
+use Rattle.sender.specs.Sender.{mayStart}
 use Rattle.state.specs.Queue.{underWay}
 use Rattle.state.specs.Sending.{idle}
 use Rattle.state.specs.declared.Bridge.{Bridge}
@@ -28,12 +29,12 @@ isNothing Over = false
 abbrev pub inPiece : Sender → Bool
 inPiece s = ltb (s .gone + 1) (pieceLength (s .piece))
 
--- nothing to send, and nothing to begin
-abbrev pub rests : Sending → Bool
-rests s = pick (ltb (s .queue .begun) (s .queue .used)) false (pick (underWay (s .queue)) false (idle (s .sender)))
+-- nothing to send, and nothing that waits may begin
+abbrev pub rests : Sending → Bool → Bool
+rests s may = pick (ltb (s .queue .begun) (s .queue .used) && may) false (pick (underWay (s .queue)) false (idle (s .sender)))
 
 unfoldable pub passesBy : Bridge → Found → Bool
-passesBy b f = pick (isNothing f) (pick (inPiece (b .sending .sender)) true (rests (b .sending))) false
+passesBy b f = pick (isNothing f) (pick (inPiece (b .sending .sender)) true (rests (b .sending) (mayStart (b .control)))) false
 
 unfoldable pub sinOf : Event → Bool
 sinOf (Power good) = false

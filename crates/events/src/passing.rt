@@ -43,13 +43,14 @@ fn in_piece(sender: Sender) -> bool
     sender.gone + 1 < line::piece_length(piece)
 }
 
-// Nothing to send, and nothing to begin.
-fn rests(sending: Sending) -> bool
+// Nothing to send, and nothing that waits may begin.
+fn rests(sending: Sending, may: bool) -> bool
     requires { ⌜ QueueFit (sending .queue) ⌝ }
-    ensures { λ r. ⌜ r ≡ restsOf sending ⌝ }
+    ensures { λ r. ⌜ r ≡ restsOf sending may ⌝ }
 {
     let queue = sending.queue;
-    if queue.begun < queue.used {
+    let waits = queue.begun < queue.used;
+    if waits & may {
         return false;
     }
     if state::is_under_way(queue) {
@@ -66,7 +67,8 @@ fn passes_by(bridge: Bridge, found: Found) -> bool
         if in_piece(bridge.sending.sender) {
             return true;
         }
-        return rests(bridge.sending);
+        let may = sender::may_start(bridge.control);
+        return rests(bridge.sending, may);
     }
     false
 }
