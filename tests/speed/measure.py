@@ -90,7 +90,7 @@ def main():
             ("step: random events of all kinds", 100, "step", random_script(work)),
             ("step: eight commands of 64 words, then ticks", 200, "step", ticks),
             ("drain: the same, drained", 200, "drain", FULL),
-            ("step: the ticks again, a tenth as many rounds", 20, "step", ticks),
+            ("step: the ticks again, ten times as many rounds", 2000, "step", ticks),
             ("step: ticks, queue and TX empty", 100, "step", steady(b"", TICK, 1)),
             ("step: ticks, 1 place, 1 word in TX", 100, "step", steady(forwards(1, 1), TICK, 1)),
             ("step: ticks, 8 places, 8 words in TX", 100, "step", steady(forwards(8, 1), TICK, 1)),
