@@ -8,6 +8,22 @@ use Rattle.base.specs.Pick.{pick}
 use Rattle.command.specs.declared.Command.{Command}
 use Rattle.command.specs.declared.Command.the-variants.{Filler, Malformed, Forward, DataRead, RegisterWrite, RegisterRead, SoftReset}
 
+-- 01 Frames (ours): the most words of FWD_WR_CRC, of any forward, extra ENDs of one, words read at once, and the end of the registers
+abbrev pub mostChecked : ℕ
+mostChecked = 512
+
+abbrev pub mostWords : ℕ
+mostWords = 4096
+
+abbrev pub mostEnds : ℕ
+mostEnds = 127
+
+abbrev pub mostRead : ℕ
+mostRead = 256
+
+abbrev pub registersEnd : ℕ
+registersEnd = 11
+
 -- The rows of 01's table, by the low twelve bits. `crc`: the command is named _CRC.
 
 -- 2, 3: "words minus 1; at most 512 for 2, 4,096 for 3"
@@ -24,11 +40,11 @@ readEnds crc low = Forward crc (low % 32 + 1) (low / 32) true
 
 -- 8, 9: "bits 7..0 words minus 1; rest 0"
 unfoldable pub dataRead : Bool → ℕ → Command
-dataRead crc low = pick (ltb low 256) (DataRead crc (low + 1)) Malformed
+dataRead crc low = pick (ltb low mostRead) (DataRead crc (low + 1)) Malformed
 
 -- 10 to 13: "bits 11..8 count minus 1; bits 7..4 zero; bits 3..0 address; address + count at most 11"
 abbrev pub spans : ℕ → Bool
-spans low = eqb (low / 16 % 16) 0 && leb (low % 16 + (low / 256 + 1)) 11
+spans low = eqb (low / 16 % 16) 0 && leb (low % 16 + (low / 256 + 1)) registersEnd
 
 unfoldable pub registerWrite : Bool → ℕ → Command
 registerWrite crc low = pick (spans low) (RegisterWrite crc (low % 16) (low / 256 + 1)) Malformed
@@ -45,8 +61,8 @@ unfoldable pub rows : ℕ → List Command
 rows low =
     Malformed
     ∷ Malformed
-    ∷ write true 512 low
-    ∷ write false 4096 low
+    ∷ write true mostChecked low
+    ∷ write false mostWords low
     ∷ writeEnds true low
     ∷ writeEnds false low
     ∷ readEnds true low

@@ -14,6 +14,10 @@ use Rattle.line.specs.declared.Piece.the-variants.{Pause, StartBit, Word
 abbrev pub wordLength : ℕ
 wordLength = 16
 
+-- a word with its check bit. 01 The line; 001 7.3.2.1
+abbrev pub groupLength : ℕ
+groupLength = 17
+
 -- the 1s of an END. 01 The line; 001 7.3.2.1
 abbrev pub endLength : ℕ
 endLength = 18

@@ -4,11 +4,13 @@ use mathlib.Core.List.{List, [], _∷_}
 use Prim.Native.Nat.{ℕ, _+_, _-_}
 use lib.Dec.{ltb, leb, eqb}
 use Rattle.base.specs.Pick.{pick}
-use Rattle.line.specs.Format.{pieceLength}
+use Rattle.command.specs.Layout.{mostWords, mostEnds}
+use Rattle.line.specs.Format.{groupLength, endLength, pieceLength}
 use Rattle.line.specs.declared.Ear.{Ear}
 use Rattle.line.specs.declared.Ear.the-variants.{Quiet, Group, Lost}
 use Rattle.registers.specs.Registers.{regsSound}
-use Rattle.state.specs.Queue.{placeAt, waiting, wordsOf}
+use Rattle.state.specs.Queue.{places, placeAt, waiting, wordsOf}
+use Rattle.state.specs.Rings.{txSize, rxSize}
 use Rattle.state.specs.Frame.{mineOf, toCome, phaseSound}
 use Rattle.state.specs.declared.Ring.{Ring}
 use Rattle.state.specs.declared.Place.{Place}
@@ -24,7 +26,7 @@ ringSound size r = ltb (r .head) size && leb (r .count) size
 
 -- a place is one that some command word makes
 abbrev pub placeSound : Place → Bool
-placeSound p = leb (p .words) 4096 && leb (p .ends) 127
+placeSound p = leb (p .words) mostWords && leb (p .ends) mostEnds
 
 abbrev pub placesSound : Queue → Bool
 placesSound q =
@@ -32,15 +34,19 @@ placesSound q =
     && placeSound (placeAt q 4) && placeSound (placeAt q 5) && placeSound (placeAt q 6) && placeSound (placeAt q 7)
 
 abbrev pub queueSound : Queue → Bool
-queueSound q = leb (q .begun) (q .used) && leb (q .used) 8 && placesSound q
+queueSound q = leb (q .begun) (q .used) && leb (q .used) places && placesSound q
+
+-- a command's own END and its extra ones
+abbrev pub mostEndsLeft : ℕ
+mostEndsLeft = 128
 
 abbrev pub senderSound : Sender → Bool
-senderSound s = leb (s .gone) (pieceLength (s .piece)) && leb (s .left) 4096 && leb (s .ends) 128
+senderSound s = leb (s .gone) (pieceLength (s .piece)) && leb (s .left) mostWords && leb (s .ends) mostEndsLeft
 
 unfoldable pub earSound : Ear → Bool
 earSound Quiet = true
-earSound (Group value bits ones) = leb bits 17 && ltb ones 18
-earSound (Lost ones) = ltb ones 18
+earSound (Group value bits ones) = leb bits groupLength && ltb ones endLength
+earSound (Lost ones) = ltb ones endLength
 
 -- what the youngest place has still to take from TX
 abbrev pub lastLeft : Sending → ℕ
@@ -59,6 +65,6 @@ allSome (p ∷ ps) = ltb 0 (p .words + p .ends) && allSome ps
 
 abbrev pub sound : Bridge → Bool
 sound b =
-    ringSound 512 (b .sending .tx) && ringSound 256 (b .receiving .rx) && regsSound (b .control .regs) && queueSound (b .sending .queue)
+    ringSound txSize (b .sending .tx) && ringSound rxSize (b .receiving .rx) && regsSound (b .control .regs) && queueSound (b .sending .queue)
     && senderSound (b .sending .sender) && earSound (b .receiving .reader .ear) && phaseSound (b .frame .phase)
     && ledger (b .sending) (b .frame .phase) && allSome (waiting (b .sending .queue))

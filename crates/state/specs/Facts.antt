@@ -2,7 +2,10 @@
 use mathlib.Core.Path.{_≡_}
 use mathlib.Core.Bool.{true}
 use Prim.Native.Nat.{ℕ, _≤_, _<_}
-use Rattle.state.specs.Queue.{placeAt}
+use Rattle.command.specs.Layout.{mostWords, mostEnds}
+use Rattle.line.specs.Format.{endLength}
+use Rattle.state.specs.Queue.{places, placeAt}
+use Rattle.state.specs.Rings.{txSize, rxSize}
 use Rattle.state.specs.Frame.{mineOf, phaseSound}
 use Rattle.state.specs.declared.Ring.{Ring}
 use Rattle.state.specs.declared.Queue.{Queue}
@@ -17,25 +20,25 @@ pub record RingFit (size : ℕ) (r : Ring) : Type 0 where
 
 pub record QueueFit (q : Queue) : Type 0 where
   pub order : q .begun ≤ q .used
-  pub most : q .used ≤ 8
-  pub words : (i : ℕ) → i < 8 → placeAt q i .words ≤ 4096
-  pub ends : (i : ℕ) → i < 8 → placeAt q i .ends ≤ 127
+  pub most : q .used ≤ places
+  pub words : (i : ℕ) → i < places → placeAt q i .words ≤ mostWords
+  pub ends : (i : ℕ) → i < places → placeAt q i .ends ≤ mostEnds
 
 pub record SendFit (s : Sending) : Type 0 where
-  pub tx : RingFit 512 (s .tx)
+  pub tx : RingFit txSize (s .tx)
   pub queue : QueueFit (s .queue)
-  pub gone : s .sender .gone ≤ 18
+  pub gone : s .sender .gone ≤ endLength
 
 pub record HostFit (b : Bridge) : Type 0 where
   pub sending : SendFit (b .sending)
-  pub rx : RingFit 256 (b .receiving .rx)
+  pub rx : RingFit rxSize (b .receiving .rx)
   pub phase : phaseSound (b .frame .phase) ≡ true
   pub mine : mineOf (b .frame .phase) ≤ b .sending .tx .count
 
 -- what a deed asks: a free place, or as many words as it takes back
 abbrev pub Doable : Sending → Deed → Type 0
 Doable s Leave = Unit {0}
-Doable s (Enqueue p) = s .queue .used < 8
+Doable s (Enqueue p) = s .queue .used < places
 Doable s (TakeBack n) = n ≤ s .tx .count
 Doable s ClearAll = Unit {0}
 Doable s ResetAll = Unit {0}

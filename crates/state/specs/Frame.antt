@@ -3,6 +3,7 @@ use mathlib.Core.Bool.{Bool, true, false, not, _&&_, _||_}
 use Prim.Native.Nat.{ℕ, _+_, _-_}
 use lib.Dec.{ltb, leb, eqb}
 use Rattle.base.specs.Pick.{pick}
+use Rattle.command.specs.Layout.{mostWords, mostEnds, mostRead, registersEnd}
 use Rattle.command.specs.declared.Command.{Command}
 use Rattle.command.specs.declared.Command.the-variants.{Filler, Malformed, Forward, DataRead, RegisterWrite, RegisterRead, SoftReset}
 use Rattle.state.specs.declared.Phase.{Phase}
@@ -40,24 +41,24 @@ toCome Discarding = 0
 -- released at the latest when all data words have come; one named _CRC is not released while it collects.
 abbrev pub forwardSound : Bool → ℕ → ℕ → ℕ → ℕ → Bool → Bool → Bool
 forwardSound crc words ends got mine released blocked =
-    leb got words && leb words 4096 && leb ends 127 && eqb mine (pick (released || blocked) 0 got) && not (released && crc)
+    leb got words && leb words mostWords && leb ends mostEnds && eqb mine (pick (released || blocked) 0 got) && not (released && crc)
     && (crc || released || blocked || ltb got words || eqb words 0)
 
 unfoldable pub collectSound : Command → ℕ → ℕ → Bool → Bool → Bool
 collectSound Filler got mine released blocked = false
 collectSound Malformed got mine released blocked = false
 collectSound (Forward crc words ends reads) got mine released blocked = forwardSound crc words ends got mine released blocked
-collectSound (DataRead crc words) got mine released blocked = eqb got 0 && eqb mine 0 && not released && ltb 0 words && leb words 256
+collectSound (DataRead crc words) got mine released blocked = eqb got 0 && eqb mine 0 && not released && ltb 0 words && leb words mostRead
 collectSound (RegisterWrite crc address count) got mine released blocked =
-    leb got count && eqb mine 0 && not released && ltb 0 count && leb (address + count) 11
+    leb got count && eqb mine 0 && not released && ltb 0 count && leb (address + count) registersEnd
 collectSound (RegisterRead crc address count) got mine released blocked =
-    eqb got 0 && eqb mine 0 && not released && ltb 0 count && leb (address + count) 11
+    eqb got 0 && eqb mine 0 && not released && ltb 0 count && leb (address + count) registersEnd
 collectSound SoftReset got mine released blocked = eqb got 0 && eqb mine 0 && not released
 
 unfoldable pub replySound : Reply → Bool
 replySound (Status w) = true
-replySound (Data left) = ltb 0 left && leb left 256
-replySound (Registers address left) = ltb 0 left && leb (address + left) 11
+replySound (Data left) = ltb 0 left && leb left mostRead
+replySound (Registers address left) = ltb 0 left && leb (address + left) registersEnd
 replySound Check = true
 
 unfoldable pub phaseSound : Phase → Bool
