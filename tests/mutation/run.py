@@ -20,7 +20,7 @@ import tempfile
 
 ROOT = pathlib.Path(__file__).resolve().parents[2]
 LIST = ROOT / "tests/mutation/changes.tsv"
-UNFIT = re.compile(r"can be named from here|is not in scope|unknown name|expects? \d+ arguments?")
+UNFIT = re.compile(r"can be named from here|is not in scope|unknown name|expects? \d+ arguments?|expected type `tie\.Need")
 
 
 def changes(crates):
