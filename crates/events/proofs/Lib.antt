@@ -4,3 +4,5 @@ mod Between
 pub mod Ticks
 pub mod Quiet
 pub mod Keeps
+pub mod Control
+pub mod Discarded

@@ -26,6 +26,10 @@ use Rattle.kept.proofs.Tests.{or-true}
 use Rattle.kept.proofs.Sound.{sound-facts, facts-sound}
 use Rattle.kept.specs.Rules.{SendRules, BridgeRules}
 use Rattle.kept.proofs.Sender.{rules-requeued, tick-sender-keeps, tick-starved}
+use Rattle.kept.proofs.Marks.{sent-marks, tick-marks, tick-reader-steady}
+use Rattle.kept.proofs.Pieces.{fit-steady}
+use Rattle.kept.proofs.Stands.{tick-stands}
+use Rattle.events.proofs.Control.{sent-hears, tick-control}
 use Rattle.kept.proofs.Reader.{Takes, tick-reader-keeps, tick-reader-ear}
 
 -- a frame with words to bring is a forward that is released: blocked, it brings none
@@ -57,7 +61,7 @@ forward-blocked : (crc : Bool) (words ends got mine : ℕ) (released blocked : B
     → forwardSound crc words ends got mine released true ≡ true
 forward-blocked crc words ends got mine released blocked m s =
     let none : eqb mine (pick (released || true) 0 got) ≡ true = rw (or-true released) (unfold pick in eq-eqb mine 0 m) in
-    let now : (crc || released || true || ltb got words || eqb words 0) ≡ true = rw (or-true (crc || released)) in
+    let now : (crc || released || true || ltb got words || (eqb words 0 && eqb ends 0)) ≡ true = rw (or-true (crc || released)) in
     let within : (leb got words && leb words 4096 && leb ends 127) ≡ true = search (and-l, and-r) in
     let plain : not (released && crc) ≡ true = search (and-l, and-r) in
     rw (within, none, plain, now)
@@ -100,11 +104,17 @@ tick-keeps b sin w r =
     let f : Flags = flagsSent (b .control .flags) s in
     let k : Takes (s .sending .queue) (hear (b .receiving .reader .ear) sin .ear) (tickReader (b .receiving) (s .sending .queue) f sin)
     = tick-reader-keeps (b .receiving) (s .sending .queue) f sin (r .rx) (a .queue) (a .eight) in
+    let t = tick-stands (b .sending) (mayStart (b .control)) w (toCome p) (mineOf p) (r .sending) (r .stands) in
+    let v = sent-marks (b .receiving) (b .sending .queue) (s .sending .queue) (b .control .flags) f (t .1) (sent-hears (b .control .flags) s) (r .marks) in
+    let y = tick-reader-steady (b .receiving) (s .sending .queue) f (a .queue) (a .eight) (t .0 .standing) v sin in
     record {
       sending = rules-phased p (r .phase) (s .starved) _ m (rules-requeued (s .sending) _ _ _ a (k .queue));
+      stands = record { standing = y .standing; sender = fit-steady (s .sending .sender) (s .sending .queue) _ y (t .0 .sender) };
       phase = sound-phased p (r .phase) (s .starved) m;
       rx = k .rx;
       ear = tick-reader-ear (b .receiving) (s .sending .queue) f sin (r .rx) (a .queue) (a .eight) (r .ear);
+      marks = tick-marks (b .receiving) (s .sending .queue) f (a .queue) (a .eight) (t .0 .standing) v sin;
+      control = tick-control b sin w (r .control);
       regs = r .regs;
     }
 

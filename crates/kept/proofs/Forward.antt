@@ -21,6 +21,8 @@ use Rattle.state.specs.declared.Phase.the-variants.{Idle, Collecting}
 use Rattle.state.specs.declared.Sending.{Sending}
 use Rattle.state.specs.declared.Store.{Store}
 use Rattle.state.specs.declared.Store.the-variants.{Keep, Put}
+use Rattle.rules.specs.Sound.{waits}
+use Rattle.kept.proofs.Stands.{Asks}
 use Rattle.kept.proofs.Deeds.{rules-none, rules-put-mine, rules-put-owed, rules-enqueued, rules-cleared}
 use Rattle.kept.specs.Rules.{SendRules}
 use Rattle.kept.proofs.Tests.{or-true}
@@ -30,6 +32,7 @@ use Rattle.kept.proofs.Owed.{blocked-brings-none}
 pub record Leaves (s : Sending) (st : Store) (d : Deed) (p : Phase) : Type 0 where
   pub sending : SendRules (done (stored s st) d) (toCome p) (mineOf p)
   pub phase : phaseSound p ≡ true
+  pub asks : Asks s d
 
 -- the rules of a forward that is collected
 pub record ForwardFit (crc : Bool) (words ends got mine : ℕ) (released blocked : Bool) : Type 0 where
@@ -38,7 +41,7 @@ pub record ForwardFit (crc : Bool) (words ends got mine : ℕ) (released blocked
   pub ends-most : ends ≤ 127
   pub own : mine ≡ pick (released || blocked) 0 got
   pub unchecked : not (released && crc) ≡ true
-  pub timely : (crc || released || blocked || ltb got words || eqb words 0) ≡ true
+  pub timely : (crc || released || blocked || ltb got words || (eqb words 0 && eqb ends 0)) ≡ true
 
 pub forward-facts : (crc : Bool) (words ends got mine : ℕ) (released blocked : Bool) → forwardSound crc words ends got mine released blocked ≡ true
     → ForwardFit crc words ends got mine released blocked
@@ -56,6 +59,11 @@ pub forward-passes : (crc : Bool) (words ends got mine : ℕ) (released blocked 
 forward-passes crc words ends got mine released blocked f =
     let n : eqb mine (pick (released || blocked) 0 got) ≡ true = eq-eqb _ _ (f .own) in
     rw (le-leb _ _ (f .come), le-leb _ _ (f .words-most), le-leb _ _ (f .ends-most), n, f .unchecked, f .timely)
+
+-- a place as a forward queues it
+fresh-waits : (words ends : ℕ) (reads : Bool) → 0 < words + ends → waits (newPlace words ends reads) ≡ true
+unfolding newPlace
+fresh-waits words ends reads h = rw (lt-ltb 0 (words + ends) h)
 
 -- what is released or blocked is timely
 released-timely : (crc a b c : Bool) → (crc || true || a || b || c) ≡ true
@@ -95,6 +103,7 @@ module _ (s : Sending) (crc : Bool) (words ends : ℕ) (reads : Bool) where
           unchecked = f .unchecked;
           timely = blocked-timely crc released _ _;
         });
+        asks = tt;
       }
 
   -- a transmit clear blocks it
@@ -111,6 +120,7 @@ module _ (s : Sending) (crc : Bool) (words ends : ℕ) (reads : Bool) where
       unchecked = u;
       timely = blocked-timely crc released _ _;
     });
+    asks = tt;
   }
 
   -- a word of a released forward goes to its place
@@ -129,6 +139,7 @@ module _ (s : Sending) (crc : Bool) (words ends : ℕ) (reads : Bool) where
           unchecked = f .unchecked;
           timely = released-timely crc false _ _;
         });
+        asks = tt;
       }
 
   -- a word of one that is not released is its own
@@ -145,9 +156,10 @@ module _ (s : Sending) (crc : Bool) (words ends : ℕ) (reads : Bool) where
       unchecked = f .unchecked;
       timely = in-time crc t;
     });
+    asks = tt;
   }
     where
-      in-time : (k : Bool) → (k || ltb (got + 1) words) ≡ true → (k || false || false || ltb (got + 1) words || eqb words 0) ≡ true
+      in-time : (k : Bool) → (k || ltb (got + 1) words) ≡ true → (k || false || false || ltb (got + 1) words || (eqb words 0 && eqb ends 0)) ≡ true
       in-time true e = refl
       in-time false e = rw e
 
@@ -169,6 +181,7 @@ module _ (s : Sending) (crc : Bool) (words ends : ℕ) (reads : Bool) where
       unchecked = rw k;
       timely = released-timely crc false _ _;
     });
+    asks = (u, fresh-waits words ends reads (omega arith));
   }
 
   -- a data word, whether it releases or not
@@ -196,9 +209,10 @@ module _ (s : Sending) (crc : Bool) (words ends : ℕ) (reads : Bool) where
       (λ c. word-gathered got sum mine w r f h (leb-false _ _ c) (q refl refl))
 
   -- the command word
-  begun-waits : (sum : ℕ) (blocked : Bool) → SendRules s 0 0 → words ≤ 4096 → ends ≤ 127 → Leaves s Keep Leave (Collects 0 sum 0 false blocked)
+  begun-waits : (sum : ℕ) (blocked : Bool) → SendRules s 0 0 → words ≤ 4096 → ends ≤ 127
+      → (crc || false || blocked || ltb 0 words || (eqb words 0 && eqb ends 0)) ≡ true → Leaves s Keep Leave (Collects 0 sum 0 false blocked)
   unfolding stored done ringAfter toCome mineOf phaseSound collectSound owedBy pick
-  begun-waits sum blocked r w e = record {
+  begun-waits sum blocked r w e t = record {
     sending = r;
     phase = forward-passes crc words ends 0 0 false blocked (record {
       come = omega arith;
@@ -206,19 +220,14 @@ module _ (s : Sending) (crc : Bool) (words ends : ℕ) (reads : Bool) where
       ends-most = e;
       own = none blocked;
       unchecked = refl;
-      timely = in-time crc blocked words;
+      timely = t;
     });
+    asks = tt;
   }
     where
       none : (k : Bool) → _≡_ {A = ℕ} 0 (pick (false || k) 0 0)
       none true = refl
       none false = refl
-
-      in-time : (c k : Bool) (n : ℕ) → (c || false || k || ltb 0 n || eqb n 0) ≡ true
-      in-time true k n = refl
-      in-time false true n = refl
-      in-time false false zero = refl
-      in-time false false (suc n) = rw (lt-ltb 0 (suc n) (omega arith))
 
   begun-queued : (sum : ℕ) → SendRules s 0 0 → words ≡ 0 → ends ≤ 127 → 0 < ends → s .queue .used < 8 → crc ≡ false
       → Leaves s Keep (Enqueue (newPlace words ends reads)) (Collects 0 sum 0 true false)
@@ -233,33 +242,39 @@ module _ (s : Sending) (crc : Bool) (words ends : ℕ) (reads : Bool) where
       unchecked = rw k;
       timely = released-timely crc false _ _;
     });
+    asks = (u, fresh-waits words ends reads (omega arith));
   }
 
   pub begun-goes : (sum : ℕ) (blocked t : Bool) → SendRules s 0 0 → words ≤ 4096 → ends ≤ 127 → (t ≡ true → (crc ≡ false) × (words ≡ 0) × (0 < ends))
+      → (t ≡ false → (crc || false || false || ltb 0 words || (eqb words 0 && eqb ends 0)) ≡ true)
       → Goes 0 sum 0 false blocked (guard blocked (s .tx .count) (s .queue .used) (wish Keep t (newPlace words ends reads)))
   unfolding guard asksStore pick mineAfter enqueues clears
-  begun-goes sum true true r w e p = begun-waits sum true r w e
-  begun-goes sum true false r w e p = begun-waits sum true r w e
-  begun-goes sum false true r w e p =
+  begun-goes sum true true r w e p o = begun-waits sum true r w e (blocked-timely crc false _ _)
+  begun-goes sum true false r w e p o = begun-waits sum true r w e (blocked-timely crc false _ _)
+  begun-goes sum false true r w e p o =
       pick-keeps (Goes 0 sum 0 false false) (leb 8 (s .queue .used)) (granted Keep ClearAll QueueFull)
       (granted Keep (Enqueue (newPlace words ends reads)) Done)
       (λ u. forward-cleared Keep 0 sum 0 0 false r (omega arith) w e refl)
       (λ u. begun-queued sum r (p refl .1) e (p refl .2) (leb-false _ _ u) (p refl .0))
-  begun-goes sum false false r w e p = begun-waits sum false r w e
+  begun-goes sum false false r w e p o = begun-waits sum false r w e (o refl)
 
   -- the CRC word of one that has come whole
   closed-left : (mine : ℕ) → SendRules s 0 mine → mine ≡ 0 → Leaves s Keep Leave Idle
   unfolding stored done ringAfter toCome mineOf phaseSound
-  closed-left mine r m = record { sending = rules-none s 0 mine r refl m; phase = refl }
+  closed-left mine r m = record { sending = rules-none s 0 mine r refl m; phase = refl; asks = tt }
 
   closed-queued : (mine : ℕ) → SendRules s 0 mine → mine ≡ words → 0 < words + ends → words ≤ 4096 → ends ≤ 127 → s .queue .used < 8
       → Leaves s Keep (Enqueue (newPlace words ends reads)) Idle
   unfolding stored ringAfter toCome mineOf phaseSound newPlace
-  closed-queued mine r m n w e u = record { sending = rules-enqueued s (newPlace words ends reads) 0 mine r u w e (omega arith) n; phase = refl }
+  closed-queued mine r m n w e u = record {
+    sending = rules-enqueued s (newPlace words ends reads) 0 mine r u w e (omega arith) n;
+    phase = refl;
+    asks = (u, fresh-waits words ends reads n);
+  }
 
   closed-cleared : (mine : ℕ) → SendRules s 0 mine → Leaves s Keep ClearAll Idle
   unfolding toCome mineOf phaseSound
-  closed-cleared mine r = record { sending = rules-cleared s Keep 0 mine r; phase = refl }
+  closed-cleared mine r = record { sending = rules-cleared s Keep 0 mine r; phase = refl; asks = tt }
 
   pub closed-goes : (mine : ℕ) (blocked t : Bool) → SendRules s 0 mine → words ≤ 4096 → ends ≤ 127 → (blocked ≡ true → mine ≡ 0)
       → (t ≡ false → mine ≡ 0) → (t ≡ true → blocked ≡ false → mine ≡ words) → (t ≡ true → 0 < words + ends)

@@ -35,14 +35,13 @@ use Rattle.state.specs.declared.Store.the-variants.{Keep}
 use Rattle.kept.proofs.Deeds.{rules-none, rules-taken-back, rules-cleared, rules-reset}
 use Rattle.kept.proofs.Fits.{commandFits, LayoutFit}
 use Rattle.kept.proofs.Forward.{Leaves, ForwardFit, forward-facts, word-goes, begun-goes, closed-goes}
+use Rattle.kept.proofs.Control.{planned-rises, released-rises}
+use Rattle.kept.proofs.Tests.{never}
 use Rattle.kept.proofs.Perform.{PlanRules, performed-keeps}
 use Rattle.kept.specs.Rules.{SendRules, BridgeRules}
 use Rattle.kept.proofs.Owed.{unreleased-owes-none}
 
 -- 1. What the tests of a frame say.
-
-never : {A : Type 0} → false ≡ true → A
-never e = let z : _≡_ {A = ℕ} 0 1 = cc in absurd (omega arith)
 
 -- a word that does not release leaves data words to come, unless the CRC word is to release
 unreleasing : (crc released full : Bool) (n m : ℕ) → n ≤ m → (not crc && not released && (full || eqb n m)) ≡ false → released ≡ false
@@ -54,7 +53,7 @@ unreleasing false false false n m h e k = let d : n ≡ m → ⊥ = eqb-false n 
 
 -- a CRC word queues what has something to send
 has-some : (words ends : ℕ) → not (eqb words 0 && eqb ends 0) ≡ true → 0 < words + ends
-has-some zero zero e = never e
+has-some zero zero e = never false e refl
 has-some zero (suc ends) e = omega arith
 has-some (suc words) ends e = omega arith
 
@@ -89,12 +88,12 @@ module _ (crc : Bool) (words ends got mine : ℕ) (released blocked : Bool) (f :
       empty : eqb words 0 ≡ true → mine ≡ got → mine ≡ 0
       empty z o = let n : words ≡ 0 = eqb-true _ _ z in omega (arith, f .come)
 
-      go : (c r k : Bool) → mine ≡ pick (r || k) 0 got → (c || r || k || ltb got words || eqb words 0) ≡ true
+      go : (c r k : Bool) → mine ≡ pick (r || k) 0 got → (c || r || k || ltb got words || (eqb words 0 && eqb ends 0)) ≡ true
           → (c && not (eqb words 0 && eqb ends 0)) ≡ false → mine ≡ 0
       go c true k o t q = o
       go c false true o t q = o
       go true false false o t q = empty (and-l _ _ (not-false _ q)) o
-      go false false false o t q = empty (rw (le-ltb got words h) at t) o
+      go false false false o t q = empty (and-l _ (eqb ends 0) (rw (le-ltb got words h) at t)) o
 
   -- one that its CRC word releases has all of them
   queued-has-all : words ≤ got → crc ≡ true → blocked ≡ false → mine ≡ words
@@ -117,6 +116,14 @@ released-own (DataRead crc words) got mine released blocked s e = eqb-true mine 
 released-own (RegisterWrite crc address count) got mine released blocked s e = eqb-true mine 0 (search (and-l, and-r))
 released-own (RegisterRead crc address count) got mine released blocked s e = eqb-true mine 0 (search (and-l, and-r))
 released-own SoftReset got mine released blocked s e = eqb-true mine 0 (search (and-l, and-r))
+
+-- one that its command word does not release is named _CRC, has words to come, or has nothing to send
+unreleased-waits : (crc : Bool) (words ends : ℕ) → (not crc && eqb words 0 && ltb 0 ends) ≡ false
+    → (crc || false || false || ltb 0 words || (eqb words 0 && eqb ends 0)) ≡ true
+unreleased-waits true words ends h = refl
+unreleased-waits false (suc words) ends h = rw (lt-ltb 0 (suc words) (omega arith))
+unreleased-waits false zero zero h = refl
+unreleased-waits false zero (suc ends) h = let x : ltb 0 (suc ends) ≡ true = lt-ltb 0 (suc ends) (omega arith) in cc
 
 -- 2. Registers and flags.
 
@@ -155,14 +162,14 @@ record Bare (p : Phase) : Type 0 where
 
 stays : (s : Sending) (p : Phase) → SendRules s 0 0 → Bare p → Leaves s Keep Leave p
 unfolding stored done ringAfter
-stays s p r n = record { sending = rw (n .owes, n .owns) r; phase = n .fits }
+stays s p r n = record { sending = rw (n .owes, n .owns) r; phase = n .fits; asks = tt }
 
 cleared : (s : Sending) (p : Phase) (c m : ℕ) → SendRules s c m → Bare p → Leaves s Keep ClearAll p
-cleared s p c m r n = record { sending = rw (n .owes, n .owns) (rules-cleared s Keep c m r); phase = n .fits }
+cleared s p c m r n = record { sending = rw (n .owes, n .owns) (rules-cleared s Keep c m r); phase = n .fits; asks = tt }
 
 taken-back : (s : Sending) (m : ℕ) → SendRules s 0 m → Leaves s Keep (TakeBack m) Idle
 unfolding stored ringAfter toCome mineOf phaseSound
-taken-back s m r = record { sending = rules-taken-back s m r; phase = refl }
+taken-back s m r = record { sending = rules-taken-back s m r; phase = refl; asks = tt }
 
 bare-idle : Bare Idle
 unfolding toCome mineOf phaseSound
@@ -205,7 +212,8 @@ module _ (b : Bridge) (g : regsSound (b .control .regs) ≡ true) where
         begun-goes (b .sending) crc words ends reads sum (blocking (b .control .flags)) (not crc && eqb words 0 && ltb 0 ends) r
         (leb-true _ _ (and-l _ (leb ends 127) h))
         (leb-true _ _ (and-r (leb words 4096) _ h))
-        (λ t. (not-true crc (search (and-l, and-r)), eqb-true words 0 (search (and-l, and-r)), ltb-true 0 ends (search (and-l, and-r))));
+        (λ t. (not-true crc (search (and-l, and-r)), eqb-true words 0 (search (and-l, and-r)), ltb-true 0 ends (search (and-l, and-r))))
+        (unreleased-waits crc words ends);
     regs = rw (faulted-regs (b .control)) g;
     ending = λ e. cc;
   }
@@ -303,7 +311,7 @@ module _ (b : Bridge) (g : regsSound (b .control .regs) ≡ true) where
 
   reset-rules : SendRules (b .sending) 0 0 → idle (b .sending .sender) ≡ true → Leaves (b .sending) Keep ResetAll Idle
   unfolding stored ringAfter toCome mineOf phaseSound
-  reset-rules r h = record { sending = rules-reset (b .sending) 0 0 r (eqb-true _ _ (search (and-l, and-r))); phase = refl }
+  reset-rules r h = record { sending = rules-reset (b .sending) 0 0 r (eqb-true _ _ (search (and-l, and-r))); phase = refl; asks = h }
 
   reset-closed-rules : SendRules (b .sending) 0 0 → PlanRules b (resetClosed b)
   unfolding resetClosed
@@ -322,8 +330,8 @@ module _ (b : Bridge) (g : regsSound (b .control .regs) ≡ true) where
 
       go : (c : Command) → SendRules (b .sending) 0 mine → collectSound c got mine released blocked ≡ true → dataWords c ≤ got
           → PlanRules b (crcDue l b c mine blocked right)
-      go Filler k s h = never s
-      go Malformed k s h = never s
+      go Filler k s h = never false s refl
+      go Malformed k s h = never false s refl
       go (Forward crc words ends reads) k s h =
           let f : ForwardFit crc words ends got mine released blocked = forward-facts crc words ends got mine released blocked s in
           pick-keeps (PlanRules b) right _ _ (λ e. forward-closed-rules crc words ends reads got mine released blocked k f h)
@@ -403,7 +411,10 @@ module _ (b : Bridge) (g : regsSound (b .control .regs) ≡ true) where
 pub host-keeps : (l : Layout) → LayoutFit l → (b : Bridge) (clock : Clock) (w x : ℕ) → BridgeRules b
     → BridgeRules (performed l b clock (planned l b w x))
 unfolding planned
-host-keeps l f b clock w x r = performed-keeps l b clock _ r (planned-rules b (r .regs) l f (b .frame .phase) w x (r .sending) (r .phase))
+host-keeps l f b clock w x r =
+    performed-keeps l b clock _ r (planned-rules b (r .regs) l f (b .frame .phase) w x (r .sending) (r .phase))
+    (unfold planned in planned-rises l b w x (r .control))
 
 pub release-keeps : (l : Layout) (b : Bridge) (clock : Clock) → BridgeRules b → BridgeRules (performed l b clock (releasedIn b (b .frame .phase)))
-release-keeps l b clock r = performed-keeps l b clock _ r (released-rules b (r .regs) (b .frame .phase) (r .sending) (r .phase))
+release-keeps l b clock r =
+    performed-keeps l b clock _ r (released-rules b (r .regs) (b .frame .phase) (r .sending) (r .phase)) (released-rises b (r .control))

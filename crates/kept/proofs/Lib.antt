@@ -2,8 +2,14 @@ pub mod Tests
 pub mod Owed
 pub mod Sound
 pub mod Queue
+pub mod Standing
+pub mod Freed
+pub mod Pieces
 pub mod Sender
+pub mod Stands
 pub mod Reader
+pub mod Control
+pub mod Marks
 pub mod Deeds
 pub mod Doable
 pub mod Forward

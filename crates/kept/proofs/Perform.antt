@@ -24,7 +24,10 @@ use Rattle.state.specs.declared.Phase.the-variants.{Idle, Answering}
 use Rattle.state.specs.declared.Receiving.{Receiving}
 use Rattle.state.specs.declared.Reply.the-variants.{Status}
 use Rattle.state.specs.declared.Sending.{Sending}
+use Rattle.kept.proofs.Control.{Rises, performed-control}
 use Rattle.kept.proofs.Forward.{Leaves}
+use Rattle.kept.proofs.Marks.{performed-marks}
+use Rattle.kept.proofs.Stands.{stands-done}
 use Rattle.kept.specs.Rules.{SendRules, BridgeRules}
 
 -- STATUS is answered only where the frame is over
@@ -66,10 +69,20 @@ concluded-fares l true c p s e f =
     pick-keeps (Fares s) (bit 0 (c .regs .spictrl)) Idle (Answering (Status (statusOf c)) (l .crcStart)) (λ h. i) (λ h. i)
 concluded-fares l false c p s e f = f
 
-pub performed-keeps : (l : Layout) (b : Bridge) (clock : Clock) (p : Plan) → BridgeRules b → PlanRules b p → BridgeRules (performed l b clock p)
+pub performed-keeps : (l : Layout) (b : Bridge) (clock : Clock) (p : Plan) → BridgeRules b → PlanRules b p → Rises b p
+    → BridgeRules (performed l b clock p)
 unfolding performed settled
-performed-keeps l b clock p r k =
+performed-keeps l b clock p r k v =
     let h : Hears (received (clearedAway (b .receiving) (p .deed)) (p .receive))
     = received-hears _ (p .receive) (cleared-away-hears (b .receiving) (p .deed) (record { rx = r .rx; ear = r .ear })) in
     let f = concluded-fares l (p .status) (performed l b clock p .control) (p .phase) _ (k .ending) (k .leaves .sending, k .leaves .phase) in
-    record { sending = f .0; phase = f .1; rx = h .rx; ear = h .ear; regs = k .regs }
+    record {
+      sending = f .0;
+      stands = stands-done (b .sending) (p .store) (p .deed) (r .sending .queue) (r .sending .eight) (r .stands) (k .leaves .asks);
+      phase = f .1;
+      rx = h .rx;
+      ear = h .ear;
+      marks = performed-marks b p r v (k .leaves .asks);
+      control = performed-control l b clock p v;
+      regs = k .regs;
+    }

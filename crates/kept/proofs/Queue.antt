@@ -9,7 +9,8 @@ use lib.ListN.{length, take, drop, getD, set, length-drop, length-set, List·get
 use lib.Seq.{drop-cons, take-suc, length-take-le, drop-set-add, drop-set-lt, take-suc-set, getD-take, getD-drop, ext-getD}
 use borrow.Author.Tests.{ltb-true, ltb-false, lt-ltb, le-ltb}
 use Rattle.base.specs.Pick.{pick, pick-keeps, and-l, and-r, and-both}
-use Rattle.rules.specs.Sound.{lastLeft, allSome}
+use Rattle.rules.specs.Facts.{allSome}
+use Rattle.rules.specs.Sound.{lastLeft}
 use Rattle.state.specs.Facts.{QueueFit}
 use Rattle.state.specs.Queue.{noPlace, placeAt, withPlace, queued, begunOne, emptiedQueue, waiting, wordsOf, moved, freed, isDone, returned}
 use Rattle.state.specs.declared.Place.{Place}
@@ -62,7 +63,7 @@ place-freed q i (suc (suc (suc (suc (suc (suc zero)))))) h = refl
 place-freed q i (suc (suc (suc (suc (suc (suc (suc zero))))))) h = refl
 place-freed q i (suc (suc (suc (suc (suc (suc (suc (suc k)))))))) h = absurd (omega arith)
 
-moved-up : (ps : List Place) (i k : ℕ) → i ≤ k → moved ps i k ≡ getD ps (suc k) noPlace
+pub moved-up : (ps : List Place) (i k : ℕ) → i ≤ k → moved ps i k ≡ getD ps (suc k) noPlace
 unfolding moved pick
 moved-up ps i k h = let n : k + 1 ≡ suc k = omega arith in rw (le-ltb k i h, n)
 
@@ -128,14 +129,29 @@ set-keeps P (x ∷ xs) zero (suc k) p h g = g
 set-keeps P (x ∷ xs) (suc i) zero p h g = g
 set-keeps P (x ∷ xs) (suc i) (suc k) p h g = set-keeps P xs i k p h g
 
+-- the cell set, or past the list the default, which fits as well
+set-last : (P : Place → Type 0) (ps : List Place) (i : ℕ) (p : Place) → P p → P noPlace → P (getD (set ps i p) i noPlace)
+set-last P [] i p h n = n
+set-last P (x ∷ xs) zero p h n = h
+set-last P (x ∷ xs) (suc i) p h n = set-last P xs i p h n
+
 -- places fit with one more, or one other, that fits
 pub fit-queued : (q : Queue) (p : Place) → QueueFit q → q .used < 8 → p .words ≤ 4096 → p .ends ≤ 127 → QueueFit (queued q p)
 fit-queued q p f h w e = record {
   order = omega (arith, f .order);
   most = omega arith;
-  words = λ k b. set-keeps (λ (x : Place). x .words ≤ 4096) (q .places) _ k p w (f .words k b);
-  ends = λ k b. set-keeps (λ (x : Place). x .ends ≤ 127) (q .places) _ k p e (f .ends k b);
+  words = at (λ (x : Place). x .words ≤ 4096) w (unfold noPlace in omega arith) (f .words);
+  ends = at (λ (x : Place). x .ends ≤ 127) e (unfold noPlace in omega arith) (f .ends);
 }
+  where
+    at : (P : Place → Type 0) → P p → P noPlace → ((k : ℕ) → k < q .used → P (placeAt q k)) → (k : ℕ) → k < q .used + 1 → P (placeAt (queued q p) k)
+    at P n o a k b = go (ltb k (q .used)) refl
+      where
+        go : (t : Bool) → ltb k (q .used) ≡ t → P (placeAt (queued q p) k)
+        go true c = set-keeps P (q .places) (q .used) k p n (a k (ltb-true _ _ c))
+        go false c =
+            let d : q .used ≤ k = ltb-false _ _ c in
+            let m : k ≡ q .used = omega arith in rw m (set-last P (q .places) (q .used) p n o)
 
 pub eight-queued : (q : Queue) (p : Place) → length (q .places) ≡ 8 → length (queued q p .places) ≡ 8
 eight-queued q p l = rw length-set l
@@ -144,13 +160,13 @@ pub fit-begun : (q : Queue) → QueueFit q → q .begun < q .used → QueueFit (
 fit-begun q f h = record { order = omega arith; most = f .most; words = f .words; ends = f .ends }
 
 pub fit-emptied : (q : Queue) → QueueFit q → QueueFit (emptiedQueue q)
-fit-emptied q f = record { order = omega arith; most = omega arith; words = f .words; ends = f .ends }
+fit-emptied q f = record { order = omega arith; most = omega arith; words = λ k b. absurd (omega arith); ends = λ k b. absurd (omega arith) }
 
 -- new marks of a place that has begun
 pub kept-marked : (q : Queue) (i : ℕ) (p : Place) → QueueFit q → length (q .places) ≡ 8 → i < q .begun
     → p .words ≡ placeAt q i .words → p .ends ≡ placeAt q i .ends → Kept q (withPlace q i p)
 kept-marked q i p f l h w e =
-    let b : i < 8 = omega (arith, f .order, f .most) in
+    let b : i < q .used = omega (arith, f .order) in
     record {
       fit = record {
         order = f .order;
@@ -162,28 +178,22 @@ kept-marked q i p f l h w e =
       waits = waiting-marked q i p h;
     }
 
--- past the eight there is no place, which fits as well
-any-place : (P : Place → Type 0) (q : Queue) → length (q .places) ≡ 8 → P noPlace → ((k : ℕ) → k < 8 → P (placeAt q k)) → (k : ℕ) → P (placeAt q k)
-any-place P q l n a k = go (ltb k 8) refl
-  where
-    go : (t : Bool) → ltb k 8 ≡ t → P (placeAt q k)
-    go true e = a k (ltb-true k 8 e)
-    go false e =
-        let b : length (q .places) ≤ k = rw l (ltb-false k 8 e) in
-        rw (List·getD-eq-default (q .places) noPlace b) n
-
-moved-keeps : (P : Place → Type 0) (q : Queue) (i k : ℕ) → length (q .places) ≡ 8 → P noPlace → ((m : ℕ) → m < 8 → P (placeAt q m))
-    → P (moved (q .places) i k)
+moved-keeps : (P : Place → Type 0) (q : Queue) (i k : ℕ) → ((m : ℕ) → m < q .used → P (placeAt q m)) → k + 1 < q .used → P (moved (q .places) i k)
 unfolding moved
-moved-keeps P q i k l n a = pick-keeps P (ltb k i) _ _ (λ h. any-place P q l n a k) (λ h. any-place P q l n a (k + 1))
+moved-keeps P q i k a b = pick-keeps P (ltb k i) _ _ (λ h. a k (omega arith)) (λ h. a (k + 1) b)
 
 pub fit-freed : (q : Queue) (i : ℕ) → QueueFit q → length (q .places) ≡ 8 → i < q .begun → QueueFit (freed q i)
 fit-freed q i f l h = record {
   order = rw (begun-freed, used-freed) (omega (arith, f .order));
   most = rw used-freed (omega (arith, f .most));
-  words = λ k b. rw (place-freed q i k b) (moved-keeps (λ (x : Place). x .words ≤ 4096) q i k l (unfold noPlace in omega arith) (f .words));
-  ends = λ k b. rw (place-freed q i k b) (moved-keeps (λ (x : Place). x .ends ≤ 127) q i k l (unfold noPlace in omega arith) (f .ends));
+  words = at (λ (x : Place). x .words ≤ 4096) (f .words);
+  ends = at (λ (x : Place). x .ends ≤ 127) (f .ends);
 }
+  where
+    at : (P : Place → Type 0) → ((k : ℕ) → k < q .used → P (placeAt q k)) → (k : ℕ) → k < freed q i .used → P (placeAt (freed q i) k)
+    at P a k b =
+        let c : k < q .used - 1 = rw used-freed at b in
+        rw (place-freed q i k (omega (arith, f .most))) (moved-keeps P q i k a (omega arith))
 
 pub kept-freed : (q : Queue) (i : ℕ) → QueueFit q → length (q .places) ≡ 8 → i < q .begun → Kept q (freed q i)
 kept-freed q i f l h = record { fit = fit-freed q i f l h; eight = eight-freed q i; waits = waiting-freed q i f l h }

@@ -181,14 +181,13 @@ module _ (s : Sending) (w c m : ℕ) (r : SendRules s c m) where
   pub rules-words-started : Chosen s StartWords → SendRules (advanced StartWords s w) c m
   unfolding advanced senderAfter pieceLength
   rules-words-started h =
-      let b : s .queue .begun < 8 = omega (arith, r .queue .most) in
       record {
         tx = r .tx;
         queue = fit-begun (s .queue) (r .queue) (h .3);
         eight = r .eight;
         gone = omega arith;
-        left = r .queue .words (s .queue .begun) b;
-        ends = omega (arith, r .queue .ends (s .queue .begun) b);
+        left = r .queue .words (s .queue .begun) (h .3);
+        ends = omega (arith, r .queue .ends (s .queue .begun) (h .3));
         sum = omega (arith, r .sum, words-begun (s .queue) (r .queue) (r .eight) (h .3));
         room = rw (last-left-begun s (advanced StartWords s w) (r .queue) (r .eight) (h .3) refl refl) (r .room);
         some = some-begun (s .queue) (r .queue) (r .eight) (h .3) (r .some);
@@ -198,14 +197,13 @@ module _ (s : Sending) (w c m : ℕ) (r : SendRules s c m) where
   pub rules-ends-started : Chosen s StartEnds → SendRules (advanced StartEnds s w) c m
   unfolding advanced senderAfter pieceLength
   rules-ends-started h =
-      let b : s .queue .begun < 8 = omega (arith, r .queue .most) in
       record {
         tx = r .tx;
         queue = fit-begun (s .queue) (r .queue) (h .3);
         eight = r .eight;
         gone = omega arith;
         left = omega arith;
-        ends = omega (arith, r .queue .ends (s .queue .begun) b);
+        ends = omega (arith, r .queue .ends (s .queue .begun) (h .3));
         sum = omega (arith, r .sum, words-begun (s .queue) (r .queue) (r .eight) (h .3));
         room = rw (last-left-begun s (advanced StartEnds s w) (r .queue) (r .eight) (h .3) refl (sym (h .4))) (r .room);
         some = some-begun (s .queue) (r .queue) (r .eight) (h .3) (r .some);

@@ -8,11 +8,13 @@ use borrow.Author.Tests.{eqb-true}
 use Rattle.base.specs.Pick.{pick, and-l, and-r}
 use Rattle.command.specs.declared.Command.{Command}
 use Rattle.command.specs.declared.Command.the-variants.{Filler, Malformed, Forward, DataRead, RegisterWrite, RegisterRead, SoftReset}
-use Rattle.rules.proofs.Facts.{sound-facts as facts, sound-from}
+use Rattle.rules.proofs.Facts.{sound-facts as facts, sound-from, some-waiting, piece-gone, piece-left, piece-ends, busy-used}
 use Rattle.rules.specs.Facts.{Sound}
 use Rattle.rules.specs.Sound.{sound}
 use Rattle.state.specs.Frame.{mineOf, owedBy, toCome, forwardSound, collectSound, phaseSound}
+use Rattle.state.specs.Facts.{QueueFit}
 use Rattle.state.specs.declared.Bridge.{Bridge}
+use Rattle.state.specs.declared.Sender.{Sender}
 use Rattle.state.specs.declared.Phase.{Phase}
 use Rattle.state.specs.declared.Phase.the-variants.{Idle, Collecting, Answering, Discarding}
 use Rattle.kept.specs.Rules.{BridgeRules}
@@ -42,22 +44,28 @@ phase-apart Discarding s h = refl
 pub sound-facts : (b : Bridge) → sound b ≡ true → length (b .sending .queue .places) ≡ 8 → BridgeRules b
 sound-facts b s l =
     let f : Sound b = facts b s in
+    let q : QueueFit (b .sending .queue) = f .queue in
+    let sd : Sender = b .sending .sender in
     record {
       sending = record {
         tx = f .tx;
-        queue = f .queue;
+        queue = q;
         eight = l;
-        gone = f .sender .gone;
-        left = f .sender .left;
-        ends = f .sender .ends;
+        gone = piece-gone (sd .gone) (sd .left) (sd .ends) _ _ _ (sd .piece) (f .sender .piece);
+        left =
+            piece-left (sd .gone) (sd .left) (sd .ends) _ _ _ (sd .piece) (f .sender .piece) (λ u. q .words _ (busy-used (b .sending .queue) q u));
+        ends = piece-ends (sd .gone) (sd .left) (sd .ends) _ _ _ (sd .piece) (f .sender .piece) (λ u. q .ends _ (busy-used (b .sending .queue) q u));
         sum = f .ledger .sum;
         room = f .ledger .last;
-        some = f .some;
+        some = some-waiting (b .sending .queue) (f .standing);
         apart = phase-apart (b .frame .phase) (f .phase);
       };
+      stands = record { standing = f .standing; sender = f .sender };
       phase = f .phase;
       rx = f .rx;
       ear = f .ear;
+      marks = f .marks;
+      control = f .control;
       regs = f .regs;
     }
 
@@ -67,10 +75,12 @@ facts-sound b r =
       tx = r .sending .tx;
       rx = r .rx;
       regs = r .regs;
+      control = r .control;
       queue = r .sending .queue;
-      sender = record { gone = r .sending .gone; left = r .sending .left; ends = r .sending .ends };
+      standing = r .stands .standing;
+      sender = r .stands .sender;
       ear = r .ear;
+      marks = r .marks;
       phase = r .phase;
       ledger = record { sum = r .sending .sum; last = r .sending .room };
-      some = r .sending .some;
     })

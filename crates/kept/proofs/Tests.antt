@@ -12,3 +12,7 @@ or-true false = refl
 
 pub none-left : (n : ℕ) → ltb 0 n ≡ false → n ≡ 0
 none-left n e = let h : n ≤ 0 = ltb-false 0 n e in omega arith
+
+-- a test cannot pass and fail
+pub never : {A : Type 0} (t : Bool) → t ≡ true → t ≡ false → A
+never t h k = let z : _≡_ {A = ℕ} 0 1 = cc in absurd (omega arith)

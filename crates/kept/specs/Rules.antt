@@ -5,7 +5,8 @@ use Prim.Native.Nat.{ℕ, _+_, _≤_, _<_}
 use lib.ListN.{length}
 use Rattle.line.specs.Format.{pieceLength}
 use Rattle.registers.specs.Registers.{regsSound}
-use Rattle.rules.specs.Sound.{earSound, lastLeft, allSome}
+use Rattle.rules.specs.Facts.{Standing, SenderFit, ControlRules, allSome}
+use Rattle.rules.specs.Sound.{earSound, marksSound, lastLeft}
 use Rattle.state.specs.Facts.{RingFit, QueueFit}
 use Rattle.state.specs.Frame.{mineOf, toCome, phaseSound}
 use Rattle.state.specs.Queue.{waiting, wordsOf}
@@ -25,9 +26,17 @@ pub record SendRules (s : Sending) (toCome mine : ℕ) : Type 0 where
   pub some : allSome (waiting (s .queue)) ≡ true
   pub apart : 0 < toCome → mine ≡ 0
 
+-- what places and sender mean together
+pub record Stands (s : Sending) : Type 0 where
+  pub standing : Standing (s .queue)
+  pub sender : SenderFit (s .sender) (s .queue)
+
 pub record BridgeRules (b : Bridge) : Type 0 where
   pub sending : SendRules (b .sending) (toCome (b .frame .phase)) (mineOf (b .frame .phase))
+  pub stands : Stands (b .sending)
   pub phase : phaseSound (b .frame .phase) ≡ true
   pub rx : RingFit 256 (b .receiving .rx)
   pub ear : earSound (b .receiving .reader .ear) ≡ true
+  pub marks : marksSound (b .receiving .reader .ear) (b .receiving .reader) (b .sending .queue) (b .control .flags) ≡ true
+  pub control : ControlRules (b .control) (b .receiving .rx .count) (b .frame .phase)
   pub regs : regsSound (b .control .regs) ≡ true

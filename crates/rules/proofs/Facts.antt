@@ -1,18 +1,20 @@
 -- The record rules: the test and the facts say the same, and the power-up values pass. Assumes nothing.
 use mathlib.Core.Path.{_≡_, refl}
-use mathlib.Core.Bool.{Bool, true, _&&_}
+use mathlib.Core.Bool.{Bool, true, false, not, _&&_}
 use mathlib.Core.List.{List, [], _∷_}
 use Prim.Native.Nat.{ℕ, zero, suc, _+_, _-_, _≤_, _<_}
 use native.Mathlib.Omega.{arith}
 use lib.ListN.{take, drop, getD}
 use lib.Seq.{getD-drop}
-use borrow.Author.Tests.{ltb-true, leb-true, eqb-true, lt-ltb, le-leb, eq-eqb}
+use borrow.Author.Tests.{ltb-true, ltb-false, leb-true, leb-false, eqb-true, lt-ltb, le-ltb, le-leb, lt-leb, eq-eqb, not-true}
+use lib.Dec.{ltb, leb, eqb}
 use Rattle.base.specs.Pick.{pick, pick-keeps, and-l, and-r, and-both}
 use Rattle.line.specs.Format.{pieceLength}
 use Rattle.line.specs.declared.Piece.{Piece}
 use Rattle.line.specs.declared.Piece.the-variants.{Pause, StartBit, WordPiece, EndPiece}
-use Rattle.registers.specs.Registers.{table, resetRegs, powerUpFlags, powerUpControl}
-use Rattle.state.specs.Queue.{noPlace, placeAt, waiting, wordsOf}
+use Rattle.registers.specs.Registers.{table, resetRegs, powerUpFlags, powerUpControl, blocking, regsSound}
+use Rattle.state.specs.Queue.{noPlace, placeAt, waiting, wordsOf, underWay, isDone}
+use Rattle.state.specs.Sending.{idle}
 use Rattle.state.specs.Frame.{mineOf, toCome, phaseSound}
 use Rattle.state.specs.Facts.{RingFit, QueueFit, SendFit, HostFit}
 use Rattle.state.specs.Power.{powerUp, powerUpBad, badControl}
@@ -23,8 +25,8 @@ use Rattle.state.specs.declared.Sender.{Sender}
 use Rattle.state.specs.declared.Sending.{Sending}
 use Rattle.state.specs.declared.Phase.{Phase}
 use Rattle.state.specs.declared.Bridge.{Bridge}
-use Rattle.rules.specs.Sound.{ringSound, placeSound, placesSound, queueSound, senderSound, earSound, lastLeft, ledger, allSome, sound}
-use Rattle.rules.specs.Facts.{SenderFit, Balanced, Sound}
+use Rattle.rules.specs.Sound.{ringSound, placeSound, isFresh, waits, awaits, roleSound, slotSound, placesSound, queueSound, pieceSound, lastBegun, senderSound, earSound, marksSound, readerSound, otpSound, drdySound, controlSound, isUnmarked, lastLeft, ledger, sound}
+use Rattle.rules.specs.Facts.{Standing, SenderFit, Balanced, Sound, allSome}
 
 -- what holds of the eight numbers below 8 holds of each
 eight : (P : ℕ → Type 0) → P 0 → P 1 → P 2 → P 3 → P 4 → P 5 → P 6 → P 7 → (i : ℕ) → i < 8 → P i
@@ -45,9 +47,9 @@ pub ring-from : (size : ℕ) (r : Ring) → RingFit size r → ringSound size r 
 ring-from size r f = and-both _ _ (lt-ltb _ _ (f .head)) (le-leb _ _ (f .count))
 
 -- the eight tests are the test of each place
-pub place-sound : (q : Queue) → placesSound q ≡ true → (i : ℕ) → i < 8 → placeSound (placeAt q i) ≡ true
+pub place-sound : (q : Queue) → placesSound q ≡ true → (i : ℕ) → i < 8 → slotSound q i ≡ true
 place-sound q h =
-    eight (λ (i : ℕ). placeSound (placeAt q i) ≡ true)
+    eight (λ (i : ℕ). slotSound q i ≡ true)
     (search (and-l, and-r) depth 30)
     (search (and-l, and-r) depth 30)
     (search (and-l, and-r) depth 30)
@@ -63,33 +65,143 @@ place-words p h = leb-true _ _ (search (and-l, and-r))
 place-ends : (p : Place) → placeSound p ≡ true → p .ends ≤ 127
 place-ends p h = leb-true _ _ (search (and-l, and-r))
 
-pub queue-fit : (q : Queue) → queueSound q ≡ true → QueueFit q
-queue-fit q h =
-    let p : placesSound q ≡ true = search (and-l, and-r) in
-    record {
-      order = leb-true _ _ (search (and-l, and-r));
-      most = leb-true _ _ (search (and-l, and-r));
-      words = λ i l. place-words (placeAt q i) (place-sound q p i l);
-      ends = λ i l. place-ends (placeAt q i) (place-sound q p i l);
-    }
+-- the rule of a place in use, and the one that it is by where it stands
+in-use : (q : Queue) (i : ℕ) → slotSound q i ≡ true → i < q .used
+    → (placeSound (placeAt q i) && roleSound (q .begun) i (placeAt q i)) ≡ true
+unfolding slotSound pick
+in-use q i h l = rw (lt-leb (q .used) i l) at h
 
-pub queue-from : (q : Queue) → QueueFit q → queueSound q ≡ true
-queue-from q f =
-    let p : (i : ℕ) → i < 8 → placeSound (placeAt q i) ≡ true = λ i l. and-both _ _ (le-leb _ _ (f .words i l)) (le-leb _ _ (f .ends i l)) in
+role-waits : (begun i : ℕ) (p : Place) → roleSound begun i p ≡ true → begun ≤ i → waits p ≡ true
+unfolding roleSound pick
+role-waits begun i p h l = rw (le-leb begun i l) at h
+
+role-awaits : (begun i : ℕ) (p : Place) → roleSound begun i p ≡ true → suc i < begun → awaits p ≡ true
+unfolding roleSound pick
+role-awaits begun i p h l =
+    let a : leb begun i ≡ false = lt-leb begun i (omega arith) in
+    let b : ltb (i + 1) begun ≡ true = lt-ltb (i + 1) begun (omega arith) in
+    rw (a, b) at h
+
+role-youngest : (begun i : ℕ) (p : Place) → roleSound begun i p ≡ true → begun ≡ suc i → isDone p ≡ false
+unfolding roleSound pick
+role-youngest begun i p h e =
+    let a : leb begun i ≡ false = lt-leb begun i (omega arith) in
+    let b : ltb (i + 1) begun ≡ false = le-ltb (i + 1) begun (omega arith) in
+    not-true (isDone p) (rw (a, b) at h)
+
+module _ (q : Queue) (h : queueSound q ≡ true) where
+  begun-used : q .begun ≤ q .used
+  begun-used = leb-true _ _ (search (and-l, and-r))
+
+  used-most : q .used ≤ 8
+  used-most = leb-true _ _ (search (and-l, and-r))
+
+  slot : (i : ℕ) → i < q .used → (placeSound (placeAt q i) && roleSound (q .begun) i (placeAt q i)) ≡ true
+  slot i l = in-use q i (place-sound q (search (and-l, and-r)) i (omega (arith, used-most))) l
+
+  role : (i : ℕ) → i < q .used → roleSound (q .begun) i (placeAt q i) ≡ true
+  role i l = and-r (placeSound (placeAt q i)) _ (slot i l)
+
+  fits : (i : ℕ) → i < q .used → placeSound (placeAt q i) ≡ true
+  fits i l = and-l (placeSound (placeAt q i)) (roleSound (q .begun) i (placeAt q i)) (slot i l)
+
+  pub queue-fit : QueueFit q
+  queue-fit = record {
+    order = begun-used;
+    most = used-most;
+    words = λ i l. place-words (placeAt q i) (fits i l);
+    ends = λ i l. place-ends (placeAt q i) (fits i l);
+  }
+
+  pub queue-stands : Standing q
+  queue-stands = record {
+    older = λ i l. role-awaits (q .begun) i (placeAt q i) (role i (omega (arith, begun-used))) l;
+    youngest = λ z. role-youngest (q .begun) (q .begun - 1) (lastBegun q) (role (q .begun - 1) (omega (arith, begun-used))) (omega arith);
+    fresh = λ i b l. role-waits (q .begun) i (placeAt q i) (role i l) b;
+  }
+
+role-from : (q : Queue) (i : ℕ) → Standing q → i < q .used → roleSound (q .begun) i (placeAt q i) ≡ true
+unfolding roleSound
+role-from q i s l =
+    pick-keeps (λ (t : Bool). t ≡ true) _ _ _ (λ h. s .fresh i (leb-true _ _ h) l)
+    (λ h. let b : i < q .begun = leb-false _ _ h in
+    pick-keeps (λ (t : Bool). t ≡ true) _ _ _ (λ k. let o : i + 1 < q .begun = ltb-true _ _ k in s .older i (omega arith))
+    (λ k. let o : q .begun ≤ i + 1 = ltb-false _ _ k in
+    let e : q .begun - 1 ≡ i = omega arith in
+    let y : isDone (placeAt q i) ≡ false = rw e at (s .youngest (omega arith)) in rw y))
+
+slot-from : (q : Queue) (i : ℕ) → QueueFit q → Standing q → slotSound q i ≡ true
+unfolding slotSound
+slot-from q i f s =
+    pick-keeps (λ (t : Bool). t ≡ true) _ _ _ (λ h. refl)
+    (λ h. let l : i < q .used = leb-false _ _ h in
+    and-both _ _ (and-both _ _ (le-leb _ _ (f .words i l)) (le-leb _ _ (f .ends i l))) (role-from q i s l))
+
+pub queue-from : (q : Queue) → QueueFit q → Standing q → queueSound q ≡ true
+queue-from q f s =
+    let p : (i : ℕ) → slotSound q i ≡ true = λ i. slot-from q i f s in
     and-both _ _ (and-both _ _ (le-leb _ _ (f .order)) (le-leb _ _ (f .most)))
     (and-both _ _ (and-both _ _ (and-both _ _ (and-both _ _ (and-both _ _ (and-both _ _ (and-both _ _
-    (p 0 (omega arith)) (p 1 (omega arith))) (p 2 (omega arith))) (p 3 (omega arith))) (p 4 (omega arith))) (p 5 (omega arith)))
-    (p 6 (omega arith))) (p 7 (omega arith)))
+    (p 0) (p 1)) (p 2)) (p 3)) (p 4)) (p 5)) (p 6)) (p 7))
 
-pub sender-fit : (s : Sender) → senderSound s ≡ true → SenderFit s
-sender-fit s h = record {
-  gone = leb-true _ _ (search (and-l, and-r));
-  left = leb-true _ _ (search (and-l, and-r));
-  ends = leb-true _ _ (search (and-l, and-r));
-}
+-- what waits has something to send
+some-first : (n : ℕ) (ps : List Place) → ((j : ℕ) → j < n → waits (getD ps j noPlace) ≡ true) → allSome (take n ps) ≡ true
+unfolding allSome
+some-first zero ps h = refl
+some-first (suc n) [] h = refl
+some-first (suc n) (p ∷ ps) h =
+    and-both (ltb 0 (p .words + p .ends)) _ (and-l (ltb 0 (p .words + p .ends)) (isFresh p) (h 0 (omega arith))) (some-first n ps (λ j l. h (suc j) (omega arith)))
 
-pub sender-from : (s : Sender) → SenderFit s → senderSound s ≡ true
-sender-from s f = and-both _ _ (and-both _ _ (le-leb _ _ (f .gone)) (le-leb _ _ (f .left))) (le-leb _ _ (f .ends))
+pub some-waiting : (q : Queue) → Standing q → allSome (waiting q) ≡ true
+unfolding waiting
+some-waiting q s =
+    some-first (q .used - q .begun) (drop (q .begun) (q .places))
+    (λ j l. rw (getD-drop (q .begun) (q .places) j noPlace) (s .fresh (q .begun + j) (omega arith) (omega arith)))
+
+pub sender-fit : (s : Sender) (q : Queue) → senderSound s q ≡ true → SenderFit s q
+sender-fit s q h = record { piece = and-l _ (not (idle s && underWay q)) h; rest = not-true _ (search (and-l, and-r)) }
+
+pub sender-from : (s : Sender) (q : Queue) → SenderFit s q → senderSound s q ≡ true
+sender-from s q f = let r : (idle s && underWay q) ≡ false = f .rest in and-both _ _ (f .piece) (rw r)
+
+-- the sender's counts fit: what is left is of the place under way
+module _ (gone left ends : ℕ) (busy : Bool) (words extra : ℕ) where
+  pub piece-gone : (u : Piece) → pieceSound u gone left ends busy words extra ≡ true → gone ≤ pieceLength u
+  unfolding pieceSound pieceLength
+  piece-gone Pause h = let e : gone ≡ 0 = eqb-true _ _ (search (and-l, and-r)) in omega arith
+  piece-gone StartBit h = let e : gone ≡ 1 = eqb-true _ _ (search (and-l, and-r)) in omega arith
+  piece-gone (WordPiece w) h = leb-true _ _ (search (and-l, and-r))
+  piece-gone EndPiece h = leb-true _ _ (search (and-l, and-r))
+
+  pub piece-left : (u : Piece) → pieceSound u gone left ends busy words extra ≡ true → (busy ≡ true → words ≤ 4096) → left ≤ 4096
+  unfolding pieceSound
+  piece-left Pause h m = let e : left ≡ 0 = eqb-true _ _ (search (and-l, and-r)) in omega arith
+  piece-left StartBit h m =
+      let e : left ≡ words = eqb-true _ _ (search (and-l, and-r)) in
+      let w : words ≤ 4096 = m (search (and-l, and-r)) in omega arith
+  piece-left (WordPiece w) h m =
+      let e : left < words = ltb-true _ _ (search (and-l, and-r)) in
+      let w : words ≤ 4096 = m (search (and-l, and-r)) in omega arith
+  piece-left EndPiece h m = let e : left ≡ 0 = eqb-true _ _ (search (and-l, and-r)) in omega arith
+
+  pub piece-ends : (u : Piece) → pieceSound u gone left ends busy words extra ≡ true → (busy ≡ true → extra ≤ 127) → ends ≤ 128
+  unfolding pieceSound
+  piece-ends Pause h m = let e : ends ≤ 1 = leb-true _ _ (search (and-l, and-r)) in omega arith
+  piece-ends StartBit h m =
+      let e : ends ≡ extra + 1 = eqb-true _ _ (search (and-l, and-r)) in
+      let x : extra ≤ 127 = m (search (and-l, and-r)) in omega arith
+  piece-ends (WordPiece w) h m =
+      let e : ends ≡ extra + 1 = eqb-true _ _ (search (and-l, and-r)) in
+      let x : extra ≤ 127 = m (search (and-l, and-r)) in omega arith
+  piece-ends EndPiece h m =
+      let e : ends ≤ pick busy extra 0 = leb-true _ _ (search (and-l, and-r)) in
+      let x : pick busy extra 0 ≤ 127 = pick-keeps (λ (n : ℕ). n ≤ 127) busy extra 0 m (λ b. omega arith) in omega arith
+
+-- a place under way is one in use
+pub busy-used : (q : Queue) → QueueFit q → underWay q ≡ true → q .begun - 1 < q .used
+busy-used q f h =
+    let z : 0 < q .begun = ltb-true _ _ (and-l _ (not (lastBegun q .sent)) h) in
+    omega (arith, f .order)
 
 pub balanced : (s : Sending) (p : Phase) → ledger s p ≡ true → Balanced s p
 balanced s p h = record { sum = eqb-true _ _ (search (and-l, and-r)); last = leb-true _ _ (search (and-l, and-r)) }
@@ -98,30 +210,41 @@ pub ledger-from : (s : Sending) (p : Phase) → Balanced s p → ledger s p ≡ 
 ledger-from s p f = and-both _ _ (eq-eqb _ _ (f .sum)) (le-leb _ _ (f .last))
 
 pub sound-facts : (b : Bridge) → sound b ≡ true → Sound b
-sound-facts b h = record {
-  tx = ring-fit 512 (b .sending .tx) (search (and-l, and-r) depth 30);
-  rx = ring-fit 256 (b .receiving .rx) (search (and-l, and-r) depth 30);
-  regs = search (and-l, and-r) depth 30;
-  queue = queue-fit (b .sending .queue) (search (and-l, and-r) depth 30);
-  sender = sender-fit (b .sending .sender) (search (and-l, and-r) depth 30);
-  ear = search (and-l, and-r) depth 30;
-  phase = search (and-l, and-r) depth 30;
-  ledger = balanced (b .sending) (b .frame .phase) (search (and-l, and-r) depth 30);
-  some = search (and-l, and-r) depth 30;
-}
+sound-facts b h =
+    let q : queueSound (b .sending .queue) ≡ true = search (and-l, and-r) depth 30 in
+    let r : readerSound (b .receiving .reader) (b .sending .queue) (b .control .flags) ≡ true = search (and-l, and-r) depth 30 in
+    let c : controlSound (b .control) (b .receiving .rx .count) ≡ true = search (and-l, and-r) depth 30 in
+    record {
+      tx = ring-fit 512 (b .sending .tx) (search (and-l, and-r) depth 30);
+      rx = ring-fit 256 (b .receiving .rx) (search (and-l, and-r) depth 30);
+      regs = search (and-l, and-r) depth 30;
+      control = record {
+        otp = search (and-l, and-r) depth 30;
+        drdy = and-r (regsSound (b .control .regs) && otpSound (b .control .mode) (b .control .flags .otp)) _ c;
+        marked = not-true _ (search (and-l, and-r) depth 30);
+      };
+      queue = queue-fit (b .sending .queue) q;
+      standing = queue-stands (b .sending .queue) q;
+      sender = sender-fit (b .sending .sender) (b .sending .queue) (search (and-l, and-r) depth 30);
+      ear = and-l _ (marksSound (b .receiving .reader .ear) (b .receiving .reader) (b .sending .queue) (b .control .flags)) r;
+      marks = and-r (earSound (b .receiving .reader .ear)) _ r;
+      phase = search (and-l, and-r) depth 30;
+      ledger = balanced (b .sending) (b .frame .phase) (search (and-l, and-r) depth 30);
+    }
 
 pub sound-from : (b : Bridge) → Sound b → sound b ≡ true
 sound-from b f =
+    let m : (blocking (b .control .flags) && isUnmarked (b .frame .phase)) ≡ false = f .control .marked in
     and-both _ _ (and-both _ _ (and-both _ _ (and-both _ _ (and-both _ _ (and-both _ _ (and-both _ _ (and-both _ _
     (ring-from 512 (b .sending .tx) (f .tx))
     (ring-from 256 (b .receiving .rx) (f .rx)))
-    (f .regs))
-    (queue-from (b .sending .queue) (f .queue)))
-    (sender-from (b .sending .sender) (f .sender)))
-    (f .ear))
+    (and-both _ _ (and-both _ _ (f .regs) (f .control .otp)) (f .control .drdy)))
+    (queue-from (b .sending .queue) (f .queue) (f .standing)))
+    (sender-from (b .sending .sender) (b .sending .queue) (f .sender)))
+    (and-both _ _ (f .ear) (f .marks)))
     (f .phase))
-    (ledger-from (b .sending) (b .frame .phase) (f .ledger)))
-    (f .some)
+    (rw m))
+    (ledger-from (b .sending) (b .frame .phase) (f .ledger))
 
 pub piece-most : (p : Piece) → pieceLength p ≤ 18
 unfolding pieceLength
@@ -159,7 +282,7 @@ mine-held s p f = let l : lastLeft s ≤ s .sender .left + wordsOf (waiting (s .
 
 pub send-fit : (b : Bridge) → Sound b → SendFit (b .sending)
 send-fit b f =
-    let g : b .sending .sender .gone ≤ pieceLength (b .sending .sender .piece) = f .sender .gone in
+    let g : b .sending .sender .gone ≤ pieceLength (b .sending .sender .piece) = piece-gone _ _ _ _ _ _ _ (f .sender .piece) in
     let m : pieceLength (b .sending .sender .piece) ≤ 18 = piece-most (b .sending .sender .piece) in
     record { tx = f .tx; queue = f .queue; gone = omega arith }
 
@@ -170,9 +293,9 @@ pub host-fit : (b : Bridge) → sound b ≡ true → HostFit b
 host-fit b h = fit-of b (sound-facts b h)
 
 pub power-up-sound : sound powerUp ≡ true
-unfolding powerUp powerUpControl powerUpFlags resetRegs table noPlace pieceLength earSound phaseSound mineOf toCome waiting wordsOf allSome pick
+unfolding powerUp powerUpControl powerUpFlags resetRegs table noPlace pieceLength pieceSound slotSound earSound marksSound otpSound blocking isUnmarked phaseSound mineOf toCome waiting wordsOf pick
 power-up-sound = refl
 
 pub power-up-bad-sound : sound powerUpBad ≡ true
-unfolding powerUpBad badControl powerUpControl powerUpFlags resetRegs table noPlace pieceLength earSound phaseSound mineOf toCome waiting wordsOf allSome pick
+unfolding powerUpBad badControl powerUpControl powerUpFlags resetRegs table noPlace pieceLength pieceSound slotSound earSound marksSound otpSound blocking isUnmarked phaseSound mineOf toCome waiting wordsOf pick
 power-up-bad-sound = refl

@@ -5,19 +5,26 @@ use mathlib.Core.List.{List, [], _∷_}
 use Prim.Native.Nat.{ℕ, zero, suc, _+_, _*_, _-_, _≤_, _<_}
 use native.Mathlib.Numerals.{add-one}
 use native.Mathlib.Omega.{arith}
-use lib.Dec.{ltb}
+use lib.Dec.{ltb, leb, eqb}
+use borrow.Author.Tests.{lt-leb}
 use lib.ListN.{length, take, drop, getD, drop-of-length-le, List·getD-eq-default}
 use lib.Seq.{drop-cons, take-nil}
-use Rattle.base.specs.Pick.{pick-true, pick-false}
+use Rattle.base.specs.Pick.{pick, pick-true, pick-false, pick-lt}
 use Rattle.command.specs.declared.Command.{Command}
 use Rattle.line.specs.declared.Ear.{Ear}
+use Rattle.line.specs.declared.Piece.{Piece}
+use Rattle.line.specs.declared.Piece.the-variants.{EndPiece}
+use Rattle.registers.specs.declared.Flags.{Flags}
+use Rattle.registers.specs.declared.Mode.{Mode}
+use Rattle.state.specs.declared.Reader.{Reader}
 use Rattle.state.specs.declared.Reply.{Reply}
 use Rattle.state.specs.declared.Phase.{Phase}
 use Rattle.state.specs.declared.Place.{Place}
 use Rattle.state.specs.declared.Queue.{Queue}
+use Rattle.state.specs.declared.Sending.{Sending}
 use Rattle.state.specs.Queue.{noPlace, placeAt, waiting, wordsOf}
 use Rattle.state.specs.Frame.{dataWords, owedBy, mineOf, toCome, collectSound, replySound, phaseSound}
-use Rattle.rules.specs.Sound.{earSound, allSome}
+use Rattle.rules.specs.Sound.{placeSound, roleSound, slotSound, pieceSound, earSound, marksSound, otpSound, unmarkedIn, isUnmarked, lastLeft}
 
 -- an arm knows the constructor
 pub to-collect : (v w : Command) (got mine : ℕ) (released blocked x : Bool) → v ≡ w → x ≡ collectSound w got mine released blocked
@@ -36,12 +43,47 @@ to-mine v w x h e = rw h e
 pub to-due : (v w : Phase) (x : ℕ) → v ≡ w → x ≡ toCome w → x ≡ toCome v
 to-due v w x h e = rw h e
 
+pub to-unmarked : (v w : Phase) (x : Bool) → v ≡ w → x ≡ isUnmarked w → x ≡ isUnmarked v
+to-unmarked v w x h e = rw h e
+
+pub to-unmarked-in : (v w : Command) (blocked x : Bool) → v ≡ w → x ≡ unmarkedIn w blocked → x ≡ unmarkedIn v blocked
+to-unmarked-in v w blocked x h e = rw h e
+
+pub to-otp : (v w : Mode) (otp x : Bool) → v ≡ w → x ≡ otpSound w otp → x ≡ otpSound v otp
+to-otp v w otp x h e = rw h e
+
+pub to-marks : (v w : Ear) (r : Reader) (q : Queue) (f : Flags) (x : Bool) → v ≡ w → x ≡ marksSound w r q f → x ≡ marksSound v r q f
+to-marks v w r q f x h e = rw h e
+
+pub to-piece : (v w : Piece) (gone left ends : ℕ) (busy : Bool) (words extra : ℕ) (x : Bool) → v ≡ w
+    → x ≡ pieceSound w gone left ends busy words extra → x ≡ pieceSound v gone left ends busy words extra
+to-piece v w gone left ends busy words extra x h e = rw h e
+
 pub to-ear : (v w : Ear) (x : Bool) → v ≡ w → x ≡ earSound w → x ≡ earSound v
 to-ear v w x h e = rw h e
 
 -- a function's answer as the last of some tests
 pub and-told : (a s t : Bool) → s ≡ t → (a && s) ≡ (a && t)
 and-told a s t h = rw h
+
+pub not-told : (s t : Bool) → s ≡ t → not s ≡ not t
+not-told s t h = rw h
+
+-- a place in use, by what its two tests answered
+pub slot-told : (q : Queue) (i : ℕ) (p : Place) (a b : Bool) → p ≡ placeAt q i → i < q .used → a ≡ placeSound p → b ≡ roleSound (q .begun) i p
+    → (a && b) ≡ slotSound q i
+unfolding slotSound
+slot-told q i p a b e l h k = pick-false _ _ _ _ (lt-leb (q .used) i l) (rw (h, k, e) refl)
+
+-- an END's piece, by the ENDs that it was told may be left
+pub end-told : (u : Piece) (gone left ends : ℕ) (busy : Bool) (words extra most : ℕ) → u ≡ EndPiece → most ≡ pick busy extra 0
+    → (ltb 0 gone && leb gone 18 && eqb left 0 && leb ends most) ≡ pieceSound u gone left ends busy words extra
+unfolding pieceSound
+end-told u gone left ends busy words extra most e h = rw (e, h) refl
+
+-- the youngest place waits: its words
+pub last-told : (s : Sending) (p : Place) → s .queue .begun < s .queue .used → p ≡ placeAt (s .queue) (s .queue .used - 1) → p .words ≡ lastLeft s
+last-told s p h e = pick-lt _ _ _ _ _ h (rw e refl)
 
 -- what a forward owes, by the tests
 module _ (command : Command) (got words : ℕ) (released blocked : Bool) (w : words ≡ dataWords command) where
@@ -55,11 +97,6 @@ module _ (command : Command) (got words : ℕ) (released blocked : Bool) (w : wo
   pub owes-not : (released && not blocked) ≡ false → 0 ≡ owedBy command got released blocked
   unfolding owedBy
   owes-not h = pick-false _ _ _ _ h refl
-
--- past the last place
-pub past-last : (q : Queue) (i : ℕ) → length (q .places) ≡ 8 → 8 ≤ i → 0 ≡ placeAt q i .words
-unfolding noPlace
-past-last q i n h = let l : length (q .places) ≤ i = omega arith in rw (List·getD-eq-default (q .places) noPlace l)
 
 -- the places from i on, below used
 abbrev pub rest : Queue → ℕ → List Place
@@ -81,43 +118,27 @@ rest-none q i h = let z : q .used - i ≡ 0 = omega arith in rw z
 rest-past : (q : Queue) (i : ℕ) → length (q .places) ≤ i → rest q i ≡ []
 rest-past q i h = rw (drop-of-length-le (q .places) h, take-nil)
 
-and-again : (a b c : Bool) → ((a && b) && c) ≡ (a && (b && c))
-and-again true b c = refl
-and-again false b c = refl
-
-and-end : (a : Bool) → (a && true) ≡ a
-and-end true = refl
-and-end false = refl
-
--- the sum and the test so far, with those of the places still to come, are those of all that wait
-pub record Counted (q : Queue) (words : ℕ) (some : Bool) (i : ℕ) : Type 0 where
+-- the sum so far, with that of the places still to come, is that of all that wait
+pub record Counted (q : Queue) (words i : ℕ) : Type 0 where
   pub long : length (q .places) ≡ 8
   pub most : words ≤ 65535 * i
   pub small : words ≤ 524280
   pub sum : words + wordsOf (rest q i) ≡ wordsOf (waiting q)
-  pub test : (some && allSome (rest q i)) ≡ allSome (waiting q)
 
-pub none-counted : (q : Queue) → length (q .places) ≡ 8 → Counted q 0 true (q .begun)
+pub none-counted : (q : Queue) → length (q .places) ≡ 8 → Counted q 0 (q .begun)
 unfolding waiting
-none-counted q l = record { long = l; most = omega arith; small = omega arith; sum = omega arith; test = refl }
+none-counted q l = record { long = l; most = omega arith; small = omega arith; sum = omega arith }
 
-module _ (q : Queue) (words : ℕ) (some : Bool) (i : ℕ) (v : Counted q words some i) where
+module _ (q : Queue) (words i : ℕ) (v : Counted q words i) where
   pub one-counted : (p : Place) (used : ℕ) → p ≡ placeAt q i → p .words < 65536 → i < 8 → used ≡ q .used → i < used
-      → Counted q (words + p .words) (some && ltb 0 (p .words + p .ends)) (i + 1)
-  unfolding wordsOf allSome
+      → Counted q (words + p .words) (i + 1)
+  unfolding wordsOf
   one-counted p used e m l u h =
       let k : i < length (q .places) = omega (arith, v .long) in
       let g : i < q .used = omega arith in
       let r : rest q i ≡ p ∷ rest q (i + 1) = rw e (rest-one q i k g) in
       let o : wordsOf (rest q i) ≡ p .words + wordsOf (rest q (i + 1)) = rw r in
-      let t : allSome (rest q i) ≡ (ltb 0 (p .words + p .ends) && allSome (rest q (i + 1))) = rw r in
-      record {
-        long = v .long;
-        most = omega (arith, v .most);
-        small = omega (arith, v .most);
-        sum = omega (arith, v .sum);
-        test = and-again some (ltb 0 (p .words + p .ends)) (allSome (rest q (i + 1))) ∙ rw t at (v .test);
-      }
+      record { long = v .long; most = omega (arith, v .most); small = omega (arith, v .most); sum = omega (arith, v .sum) }
 
   pub all-counted : (used : ℕ) → used ≡ q .used → used ≤ i → rest q i ≡ []
   all-counted used u h = rest-none q i (omega arith)
@@ -128,7 +149,3 @@ module _ (q : Queue) (words : ℕ) (some : Bool) (i : ℕ) (v : Counted q words 
   pub summed : rest q i ≡ [] → words ≡ wordsOf (waiting q)
   unfolding wordsOf
   summed e = let o : wordsOf (rest q i) ≡ 0 = rw e in omega (arith, v .sum)
-
-  pub tested : rest q i ≡ [] → some ≡ allSome (waiting q)
-  unfolding allSome
-  tested e = sym (and-end some) ∙ rw e at (v .test)

@@ -1,22 +1,38 @@
 -- The record rules as facts (`sound` is their test): what every event keeps, proved on these.
 use mathlib.Core.Path.{_≡_}
-use mathlib.Core.Bool.{true}
-use Prim.Native.Nat.{ℕ, _+_, _≤_}
-use Rattle.line.specs.Format.{pieceLength}
-use Rattle.registers.specs.Registers.{regsSound}
-use Rattle.state.specs.Queue.{waiting, wordsOf}
+use mathlib.Core.Bool.{Bool, true, false, _&&_}
+use mathlib.Core.List.{List, [], _∷_}
+use Prim.Native.Nat.{ℕ, suc, _+_, _-_, _≤_, _<_}
+use lib.Dec.{ltb}
+use Rattle.registers.specs.Registers.{regsSound, blocking}
+use Rattle.registers.specs.declared.Control.{Control}
+use Rattle.state.specs.Queue.{placeAt, waiting, wordsOf, underWay, isDone}
 use Rattle.state.specs.Frame.{mineOf, toCome, phaseSound}
 use Rattle.state.specs.Facts.{RingFit, QueueFit}
+use Rattle.state.specs.Sending.{idle}
+use Rattle.state.specs.declared.Place.{Place}
+use Rattle.state.specs.declared.Queue.{Queue}
 use Rattle.state.specs.declared.Sender.{Sender}
 use Rattle.state.specs.declared.Sending.{Sending}
 use Rattle.state.specs.declared.Phase.{Phase}
 use Rattle.state.specs.declared.Bridge.{Bridge}
-use Rattle.rules.specs.Sound.{earSound, lastLeft, allSome}
+use Rattle.rules.specs.Sound.{waits, awaits, pieceSound, lastBegun, earSound, marksSound, otpSound, drdySound, isUnmarked, lastLeft}
 
-pub record SenderFit (s : Sender) : Type 0 where
-  pub gone : s .gone ≤ pieceLength (s .piece)
-  pub left : s .left ≤ 4096
-  pub ends : s .ends ≤ 128
+-- what each place in use is: behind the youngest that has begun sent and not yet read, that one not done, the others waiting
+pub record Standing (q : Queue) : Type 0 where
+  pub older : (i : ℕ) → suc i < q .begun → awaits (placeAt q i) ≡ true
+  pub youngest : 0 < q .begun → isDone (lastBegun q) ≡ false
+  pub fresh : (i : ℕ) → q .begun ≤ i → i < q .used → waits (placeAt q i) ≡ true
+
+pub record SenderFit (s : Sender) (q : Queue) : Type 0 where
+  pub piece : pieceSound (s .piece) (s .gone) (s .left) (s .ends) (underWay q) (lastBegun q .words) (lastBegun q .ends) ≡ true
+  pub rest : (idle s && underWay q) ≡ false
+
+-- the rules of registers, flags and frame; `count` words are in RX
+pub record ControlRules (c : Control) (count : ℕ) (p : Phase) : Type 0 where
+  pub otp : otpSound (c .mode) (c .flags .otp) ≡ true
+  pub drdy : drdySound (c .drdy) (c .regs .rxfflvl) count ≡ true
+  pub marked : (blocking (c .flags) && isUnmarked p) ≡ false
 
 -- the sum that keeps every word with its command, and what is still to come is for the youngest place
 pub record Balanced (s : Sending) (p : Phase) : Type 0 where
@@ -27,9 +43,16 @@ pub record Sound (b : Bridge) : Type 0 where
   pub tx : RingFit 512 (b .sending .tx)
   pub rx : RingFit 256 (b .receiving .rx)
   pub regs : regsSound (b .control .regs) ≡ true
+  pub control : ControlRules (b .control) (b .receiving .rx .count) (b .frame .phase)
   pub queue : QueueFit (b .sending .queue)
-  pub sender : SenderFit (b .sending .sender)
+  pub standing : Standing (b .sending .queue)
+  pub sender : SenderFit (b .sending .sender) (b .sending .queue)
   pub ear : earSound (b .receiving .reader .ear) ≡ true
+  pub marks : marksSound (b .receiving .reader .ear) (b .receiving .reader) (b .sending .queue) (b .control .flags) ≡ true
   pub phase : phaseSound (b .frame .phase) ≡ true
   pub ledger : Balanced (b .sending) (b .frame .phase)
-  pub some : allSome (waiting (b .sending .queue)) ≡ true
+
+-- what waits has something to send: so 01's sum of ticks holds
+unfoldable pub allSome : List Place → Bool
+allSome [] = true
+allSome (p ∷ ps) = ltb 0 (p .words + p .ends) && allSome ps

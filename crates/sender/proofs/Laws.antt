@@ -54,7 +54,7 @@ module _ (q : Queue) (n : Next) (r : Room q n) (f : QueueFit q) where
   ends-below h = let l : q .begun < q .used = subst (Room q) h r in omega (arith, f .most)
 
   pub ends-fit : n ≡ StartWords → placeAt q (q .begun) .ends + 1 < 65536
-  ends-fit h = omega (arith, f .ends (q .begun) (words-below h))
+  ends-fit h = omega (arith, f .ends (q .begun) (subst (Room q) h r))
 
 -- a piece by what its length was told to be
 pub piece-more : (g n : ℕ) (p : Piece) (r x y : Next) → n ≡ pieceLength p → g < n → r ≡ x → r ≡ pick (ltb g (pieceLength p)) x y
@@ -117,7 +117,8 @@ pub queue-sent-fit : (q : Queue) (left w : ℕ) → QueueFit q → QueueFit (que
 unfolding queueSent wordSent
 queue-sent-fit q left w f =
     pick-keeps QueueFit _ _ _
-    (λ h. let l : q .begun - 1 < 8 = omega (arith, f .order, f .most) in
+    (λ h. let z : 0 < q .begun = ltb-true _ _ h in
+    let l : q .begun - 1 < q .used = omega (arith, f .order) in
     place-fit q (q .begun - 1) _ f (f .words (q .begun - 1) l) (f .ends (q .begun - 1) l))
     (λ _. f)
 

@@ -21,8 +21,8 @@ pub record RingFit (size : ℕ) (r : Ring) : Type 0 where
 pub record QueueFit (q : Queue) : Type 0 where
   pub order : q .begun ≤ q .used
   pub most : q .used ≤ places
-  pub words : (i : ℕ) → i < places → placeAt q i .words ≤ mostWords
-  pub ends : (i : ℕ) → i < places → placeAt q i .ends ≤ mostEnds
+  pub words : (i : ℕ) → i < q .used → placeAt q i .words ≤ mostWords
+  pub ends : (i : ℕ) → i < q .used → placeAt q i .ends ≤ mostEnds
 
 pub record SendFit (s : Sending) : Type 0 where
   pub tx : RingFit txSize (s .tx)

@@ -38,11 +38,12 @@ toCome (Answering reply crc) = 0
 toCome Discarding = 0
 
 -- Record rules of a frame. A forward's unreleased words are all that came; released or blocked it has none. One that is not named _CRC is
--- released at the latest when all data words have come; one named _CRC is not released while it collects.
+-- released or blocked at the latest when all data words have come, unless it has nothing to send; one named _CRC is not released while it
+-- collects.
 abbrev pub forwardSound : Bool → ℕ → ℕ → ℕ → ℕ → Bool → Bool → Bool
 forwardSound crc words ends got mine released blocked =
     leb got words && leb words mostWords && leb ends mostEnds && eqb mine (pick (released || blocked) 0 got) && not (released && crc)
-    && (crc || released || blocked || ltb got words || eqb words 0)
+    && (crc || released || blocked || ltb got words || (eqb words 0 && eqb ends 0))
 
 unfoldable pub collectSound : Command → ℕ → ℕ → Bool → Bool → Bool
 collectSound Filler got mine released blocked = false

@@ -17,6 +17,7 @@ pub use places::claimed;
 pub use places::give_back;
 pub use places::is_under_way;
 pub use places::new_place;
+pub use places::place_at;
 use registers::Control;
 use registers::Mode;
 

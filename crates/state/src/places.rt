@@ -25,7 +25,7 @@ pub fn new_place(words: u16, ends: u16, store: bool) -> Place
 }
 
 // No place stands beyond the eighth.
-fn place_at(queue: Queue, k: u16) -> Place
+pub fn place_at(queue: Queue, k: u16) -> Place
     ensures { λ r. ⌜ r ≡ placeAt queue k ⌝ }
 {
     if k < 8 {
@@ -36,7 +36,6 @@ fn place_at(queue: Queue, k: u16) -> Place
 
 // A place is under way: begun, and not yet sent.
 pub fn is_under_way(queue: Queue) -> bool
-    requires { ⌜ QueueFit queue ⌝ }
     ensures { λ r. ⌜ r ≡ underWay queue ⌝ }
 {
     let begun = queue.begun;

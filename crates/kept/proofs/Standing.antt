@@ -1,0 +1,206 @@
+-- What the places mean, and what of it each operation on the queue keeps (01 The line, "it is freed when sent and read back"). Assumes nothing.
+use mathlib.Core.Path.{_≡_, refl, sym, _∙_, ap}
+use mathlib.Core.Bool.{Bool, true, false, not, _&&_, _||_}
+use mathlib.Core.List.{List, [], _∷_}
+use mathlib.Core.Logic.{_≢_}
+use Prim.Native.Nat.{ℕ, zero, suc, _+_, _-_, _≤_, _<_}
+use native.Mathlib.Omega.{arith}
+use lib.Dec.{ltb, eqb}
+use lib.ListN.{length, take, getD, set}
+use lib.Seq.{getD-set-same, getD-set-other}
+use borrow.Author.Tests.{ltb-true, ltb-false, lt-ltb, le-ltb, eqb-true, eqb-false, ne-eqb, not-true}
+use Rattle.base.specs.Pick.{pick, pick-keeps, and-l, and-r, and-both}
+use Rattle.rules.specs.Facts.{Standing}
+use Rattle.rules.specs.Sound.{isFresh, waits, awaits, lastBegun, isUnread}
+use Rattle.state.specs.Facts.{QueueFit}
+use Rattle.state.specs.Queue.{noPlace, placeAt, withPlace, queued, begunOne, emptiedQueue, underWay, moved, freed, firstUnread, claimed, isDone, returned}
+use Rattle.state.specs.declared.Place.{Place}
+use Rattle.state.specs.declared.Queue.{Queue}
+use Rattle.state.specs.declared.Returned.{Returned}
+use Rattle.kept.proofs.Queue.{place-freed, moved-up, begun-freed, used-freed, eight-freed}
+
+-- 1. The three meanings of a place.
+
+pub awaits-sent : (p : Place) → awaits p ≡ true → p .sent ≡ true
+awaits-sent p h = search (and-l, and-r)
+
+pub awaits-undone : (p : Place) → awaits p ≡ true → isDone p ≡ false
+awaits-undone p h =
+    let s : p .sent ≡ true = search (and-l, and-r) in
+    let r : p .read ≡ false = not-true _ (search (and-l, and-r)) in
+    let w : 0 < p .words = ltb-true _ _ (and-r (p .sent && not (p .read)) _ h) in
+    let z : eqb (p .words) 0 ≡ false = ne-eqb (p .words) 0 (λ e. absurd (omega arith)) in
+    rw (s, r, z)
+
+-- sent and not done: it awaits its reading
+pub undone-awaits : (p : Place) → p .sent ≡ true → isDone p ≡ false → awaits p ≡ true
+undone-awaits p s d = go (p .read) (p .words) (rw s at d)
+  where
+    go : (r : Bool) (n : ℕ) → (r || eqb n 0) ≡ false → (p .sent && not r && ltb 0 n) ≡ true
+    go true n e = cc
+    go false zero e = cc
+    go false (suc n) e = rw (s, lt-ltb 0 (suc n) (omega arith))
+
+unsent-undone : (p : Place) → p .sent ≡ false → isDone p ≡ false
+unsent-undone p s = rw s
+
+pub waits-unsent : (p : Place) → waits p ≡ true → p .sent ≡ false
+waits-unsent p h = not-true _ (search (and-l, and-r))
+
+-- 2. Places one by one.
+
+module _ (q : Queue) (i : ℕ) (p : Place) where
+  pub other-place : (k : ℕ) → k ≢ i → placeAt (withPlace q i p) k ≡ placeAt q k
+  other-place k h = getD-set-other (q .places) i k p noPlace h
+
+  pub same-place : i < length (q .places) → placeAt (withPlace q i p) i ≡ p
+  same-place h = getD-set-same (q .places) i p noPlace h
+
+pub freed-below : (q : Queue) (i k : ℕ) → k < 8 → k < i → placeAt (freed q i) k ≡ placeAt q k
+unfolding moved pick
+freed-below q i k b h = place-freed q i k b ∙ rw (lt-ltb k i h)
+
+pub freed-above : (q : Queue) (i k : ℕ) → k < 8 → i ≤ k → placeAt (freed q i) k ≡ placeAt q (suc k)
+freed-above q i k b h = place-freed q i k b ∙ moved-up (q .places) i k h
+
+-- 3. What the operations on places that have begun keep: their meaning, the command under way, and the oldest place where it is unread.
+
+pub record Steady (q r : Queue) : Type 0 where
+  pub standing : Standing r
+  pub busy : underWay r ≡ underWay q
+  pub last : underWay q ≡ true → (lastBegun r .words ≡ lastBegun q .words) × (lastBegun r .ends ≡ lastBegun q .ends)
+
+abbrev pub Unread : Queue → Queue → Type 0
+Unread q r = isUnread q ≡ true → (isUnread r ≡ true) × (placeAt r 0 .store ≡ placeAt q 0 .store)
+
+pub steady-same : (q : Queue) → Standing q → Steady q q
+steady-same q s = record { standing = s; busy = refl; last = λ h. (refl, refl) }
+
+pub unread-same : (q : Queue) → Unread q q
+unread-same q h = (h, refl)
+
+pub unread-trans : (q r s : Queue) → Unread q r → Unread r s → Unread q s
+unread-trans q r s a b h = (b (a h .0) .0, b (a h .0) .1 ∙ a h .1)
+
+pub unread-begun : (q : Queue) → isUnread q ≡ true → 0 < q .begun
+unread-begun q h = ltb-true _ _ (search (and-l, and-r))
+
+-- the oldest place's fields decide it
+pub unread-by : (q r : Queue) → 0 < r .begun → placeAt r 0 .words ≡ placeAt q 0 .words → placeAt r 0 .read ≡ placeAt q 0 .read
+    → placeAt r 0 .store ≡ placeAt q 0 .store → Unread q r
+unread-by q r b w d s h =
+    let k : ltb 0 (placeAt q 0 .words) ≡ true = search (and-l, and-r) in
+    let m : not (placeAt q 0 .read) ≡ true = search (and-l, and-r) in
+    (rw (lt-ltb 0 (r .begun) b, w, d, k, m), s)
+
+-- 4. New marks that leave sent, read, words, ENDs and store.
+pub record Alike (p o : Place) : Type 0 where
+  pub words : p .words ≡ o .words
+  pub ends : p .ends ≡ o .ends
+  pub sent : p .sent ≡ o .sent
+  pub read : p .read ≡ o .read
+  pub store : p .store ≡ o .store
+
+alike-same : (p o : Place) → p ≡ o → Alike p o
+alike-same p o e = record { words = rw e; ends = rw e; sent = rw e; read = rw e; store = rw e }
+
+module _ (q : Queue) (i : ℕ) (p : Place) (f : QueueFit q) (l : length (q .places) ≡ 8) (h : i < q .begun) (a : Alike p (placeAt q i)) where
+  alike-at : (k : ℕ) → Alike (placeAt (withPlace q i p) k) (placeAt q k)
+  alike-at k = go (eqb k i) refl
+    where
+      go : (t : Bool) → eqb k i ≡ t → Alike (placeAt (withPlace q i p) k) (placeAt q k)
+      go true e =
+          let n : k ≡ i = eqb-true k i e in
+          rw (n, same-place q i p (omega (arith, f .order, f .most))) a
+      go false e = alike-same _ _ (other-place q i p k (eqb-false k i e))
+
+  pub marked-steady : Standing q → Steady q (withPlace q i p)
+  marked-steady s = record {
+    standing = record {
+      older = λ k b. let o = alike-at k in rw (o .sent, o .read, o .words) (s .older k b);
+      youngest = λ b. let o = alike-at (q .begun - 1) in rw (o .sent, o .read, o .words) (s .youngest b);
+      fresh = λ k b u. rw (other-place q i p k (λ e. absurd (omega arith))) (s .fresh k b u);
+    };
+    busy = let o = alike-at (q .begun - 1) in rw (o .sent);
+    last = λ b. let o = alike-at (q .begun - 1) in (o .words, o .ends);
+  }
+
+  pub marked-unread : Unread q (withPlace q i p)
+  marked-unread = let o = alike-at 0 in unread-by q (withPlace q i p) (omega arith) (o .words) (o .read) (o .store)
+
+-- 5. A command queued, begun; the queue emptied.
+module _ (q : Queue) (f : QueueFit q) (l : length (q .places) ≡ 8) (s : Standing q) where
+  module _ (p : Place) (h : q .used < 8) (w : waits p ≡ true) where
+    queued-other : (k : ℕ) → k < q .used → placeAt (queued q p) k ≡ placeAt q k
+    queued-other k b = getD-set-other (q .places) (q .used) k p noPlace (λ e. absurd (omega arith))
+
+    pub queued-steady : Steady q (queued q p)
+    queued-steady = record {
+      standing = record {
+        older = λ k b. rw (queued-other k (omega (arith, f .order))) (s .older k b);
+        youngest = λ b. rw (queued-other (q .begun - 1) (omega (arith, f .order))) (s .youngest b);
+        fresh = λ k b u. go k b u (ltb k (q .used)) refl;
+      };
+      busy = at-last (q .begun) refl;
+      last = λ b. let z : 0 < q .begun = ltb-true _ _ (and-l _ (not (lastBegun q .sent)) b) in
+          rw (queued-other (q .begun - 1) (omega (arith, f .order))) (refl, refl);
+    }
+      where
+        go : (k : ℕ) → q .begun ≤ k → k < q .used + 1 → (t : Bool) → ltb k (q .used) ≡ t → waits (placeAt (queued q p) k) ≡ true
+        go k b u true e = rw (queued-other k (ltb-true _ _ e)) (s .fresh k b (ltb-true _ _ e))
+        go k b u false e =
+            let d : q .used ≤ k = ltb-false _ _ e in
+            let n : k ≡ q .used = omega arith in
+            rw (n, getD-set-same (q .places) (q .used) p noPlace (omega arith)) w
+
+        at-last : (n : ℕ) → q .begun ≡ n → underWay (queued q p) ≡ underWay q
+        at-last zero e = rw e
+        at-last (suc n) e = rw (queued-other (q .begun - 1) (omega (arith, f .order)))
+
+    pub queued-unread : Unread q (queued q p)
+    queued-unread u =
+        let z : 0 < q .begun = unread-begun q u in
+        let e : placeAt (queued q p) 0 ≡ placeAt q 0 = queued-other 0 (omega (arith, f .order)) in
+        unread-by q (queued q p) z (rw e) (rw e) (rw e) u
+
+  -- not under way: what has begun is sent
+  pub rested-sent : underWay q ≡ false → 0 < q .begun → lastBegun q .sent ≡ true
+  rested-sent u b = go (lastBegun q .sent) (rw (lt-ltb 0 (q .begun) b) at u)
+    where
+      go : (t : Bool) → not t ≡ false → t ≡ true
+      go true e = refl
+      go false e = cc
+
+  module _ (h : q .begun < q .used) where
+    pub begun-last : lastBegun (begunOne q) ≡ placeAt q (q .begun)
+    begun-last = let e : q .begun + 1 - 1 ≡ q .begun = omega arith in rw e
+
+    pub begun-standing : underWay q ≡ false → Standing (begunOne q)
+    begun-standing u = record {
+      older = λ k b. go k b (ltb (suc k) (q .begun)) refl;
+      youngest = λ b. rw begun-last (unsent-undone (placeAt q (q .begun)) (waits-unsent (placeAt q (q .begun)) (s .fresh (q .begun) (omega arith) h)));
+      fresh = λ k b c. s .fresh k (omega arith) c;
+    }
+      where
+        go : (k : ℕ) → suc k < q .begun + 1 → (t : Bool) → ltb (suc k) (q .begun) ≡ t → awaits (placeAt q k) ≡ true
+        go k b true e = s .older k (ltb-true _ _ e)
+        go k b false e =
+            let d : q .begun ≤ suc k = ltb-false _ _ e in
+            let z : 0 < q .begun = omega arith in
+            let n : q .begun - 1 ≡ k = omega arith in
+            rw n at (undone-awaits (lastBegun q) (rested-sent u z) (s .youngest z))
+
+    pub begun-busy : underWay (begunOne q) ≡ true
+    begun-busy =
+        let w : placeAt q (q .begun) .sent ≡ false = waits-unsent (placeAt q (q .begun)) (s .fresh (q .begun) (omega arith) h) in
+        rw (begun-last, w, lt-ltb 0 (q .begun + 1) (omega arith))
+
+    pub begun-unread : Unread q (begunOne q)
+    begun-unread = unread-by q (begunOne q) (omega arith) refl refl refl
+
+pub emptied-standing : (q : Queue) → Standing (emptiedQueue q)
+emptied-standing q = record {
+  older = λ k b. absurd (omega arith);
+  youngest = λ b. absurd (omega arith);
+  fresh = λ k b u. absurd (omega arith);
+}

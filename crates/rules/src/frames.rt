@@ -1,0 +1,197 @@
+// The record rules of a frame: its phase, and what it has in TX and has still to bring.
+ghost use mathlib.Core.Path.{_≡_};
+ghost use mathlib.Core.Bool.{_||_};
+ghost use Prim.Native.Nat.{_+_};
+ghost use lib.Dec.{leb};
+ghost use Rattle.base.specs.Pick.{pick};
+ghost use Rattle.state.specs.Frame.{mineOf, owedBy, toCome, forwardSound, collectSound, replySound, phaseSound};
+ghost use Rattle.rules.specs.Sound.{unmarkedIn, isUnmarked};
+use command::Command;
+use state::Phase;
+use state::Reply;
+
+// The data words of a forward that its frame has in TX.
+fn unreleased(got: u16, released: bool, blocked: bool) -> u16
+    ensures { λ r. ⌜ r ≡ pick (released || blocked) 0 got ⌝ }
+{
+    if released | blocked { 0 } else { got }
+}
+
+fn forward_sound(
+    crc: bool,
+    words: u16,
+    ends: u16,
+    got: u16,
+    mine: u16,
+    released: bool,
+    blocked: bool,
+) -> bool
+    ensures { λ r. ⌜ r ≡ forwardSound crc words ends got mine released blocked ⌝ }
+{
+    let counts = (got <= words) & (words <= 4096) & (ends <= 127);
+    let own = mine == unreleased(got, released, blocked);
+    let none = (words == 0) & (ends == 0);
+    let due = crc | released | blocked | (got < words) | none;
+    counts & own & !(released & crc) & due
+}
+
+fn span_sound(address: u16, count: u16) -> bool
+    ensures { λ r. ⌜ r ≡ leb (address + count) 11 ⌝ }
+{
+    address as u32 + count as u32 <= 11
+}
+
+fn collect_sound(command: Command, got: u16, mine: u16, released: bool, blocked: bool) -> bool
+    ensures { λ r. ⌜ r ≡ collectSound command got mine released blocked ⌝ }
+{
+    match command {
+        Command::Filler => false,
+        Command::Malformed => false,
+        Command::Forward {
+            crc,
+            words,
+            ends,
+            reads: _,
+        } => forward_sound(crc, words, ends, got, mine, released, blocked),
+        Command::DataRead { crc: _, words } => (got == 0)
+            & (mine == 0)
+            & !released
+            & (0 < words)
+            & (words <= 256),
+        Command::RegisterWrite {
+            crc: _,
+            address,
+            count,
+        } => (got <= count) & (mine == 0) & !released & (0 < count) & span_sound(address, count),
+        Command::RegisterRead {
+            crc: _,
+            address,
+            count,
+        } => (got == 0) & (mine == 0) & !released & (0 < count) & span_sound(address, count),
+        Command::SoftReset => (got == 0) & (mine == 0) & !released,
+    }
+}
+
+fn reply_sound(reply: Reply) -> bool
+    ensures { λ r. ⌜ r ≡ replySound reply ⌝ }
+{
+    match reply {
+        Reply::Status(_) => true,
+        Reply::Data(left) => (0 < left) & (left <= 256),
+        Reply::Registers { address, left } => (0 < left) & span_sound(address, left),
+        Reply::Check => true,
+    }
+}
+
+pub fn phase_sound(phase: Phase) -> bool
+    ensures { λ r. ⌜ r ≡ phaseSound phase ⌝ }
+{
+    match phase {
+        Phase::Idle => true,
+        Phase::Collecting {
+            command,
+            got,
+            crc: _,
+            mine,
+            released,
+            blocked,
+        } => collect_sound(command, got, mine, released, blocked),
+        Phase::Answering { reply, crc: _ } => reply_sound(reply),
+        Phase::Discarding => true,
+    }
+}
+
+pub fn mine_of(phase: Phase) -> u16
+    ensures { λ r. ⌜ r ≡ mineOf phase ⌝ }
+{
+    match phase {
+        Phase::Idle => 0,
+        Phase::Collecting {
+            command: _,
+            got: _,
+            crc: _,
+            mine,
+            released: _,
+            blocked: _,
+        } => mine,
+        Phase::Answering { reply: _, crc: _ } => 0,
+        Phase::Discarding => 0,
+    }
+}
+
+// Words that came in excess, in a broken state, owe none.
+fn owed_by(command: Command, got: u16, released: bool, blocked: bool) -> u16
+    ensures { λ r. ⌜ r ≡ owedBy command got released blocked ⌝ }
+{
+    let words = state::data_words(command);
+    if released & !blocked {
+        if got < words {
+            return words - got;
+        }
+    }
+    0
+}
+
+pub fn to_come(phase: Phase) -> u16
+    ensures { λ r. ⌜ r ≡ toCome phase ⌝ }
+{
+    match phase {
+        Phase::Idle => 0,
+        Phase::Collecting {
+            command,
+            got,
+            crc: _,
+            mine: _,
+            released,
+            blocked,
+        } => owed_by(command, got, released, blocked),
+        Phase::Answering { reply: _, crc: _ } => 0,
+        Phase::Discarding => 0,
+    }
+}
+
+// An open forward that is not marked as blocked.
+fn unmarked_in(command: Command, blocked: bool) -> bool
+    ensures { λ r. ⌜ r ≡ unmarkedIn command blocked ⌝ }
+{
+    match command {
+        Command::Filler => false,
+        Command::Malformed => false,
+        Command::Forward {
+            crc: _,
+            words: _,
+            ends: _,
+            reads: _,
+        } => !blocked,
+        Command::DataRead { crc: _, words: _ } => false,
+        Command::RegisterWrite {
+            crc: _,
+            address: _,
+            count: _,
+        } => false,
+        Command::RegisterRead {
+            crc: _,
+            address: _,
+            count: _,
+        } => false,
+        Command::SoftReset => false,
+    }
+}
+
+pub fn is_unmarked(phase: Phase) -> bool
+    ensures { λ r. ⌜ r ≡ isUnmarked phase ⌝ }
+{
+    match phase {
+        Phase::Idle => false,
+        Phase::Collecting {
+            command,
+            got: _,
+            crc: _,
+            mine: _,
+            released: _,
+            blocked,
+        } => unmarked_in(command, blocked),
+        Phase::Answering { reply: _, crc: _ } => false,
+        Phase::Discarding => false,
+    }
+}

@@ -1,0 +1,96 @@
+// The record rules of the queue: each place by where it stands.
+ghost use mathlib.Core.Path.{_≡_};
+ghost use Prim.Native.Nat.{_≤_, _<_};
+ghost use Rattle.state.specs.Queue.{waiting, wordsOf, isDone};
+ghost use Rattle.rules.specs.Sound.{placeSound, isFresh, waits as waitsOf, awaits as awaitsOf, roleSound, slotSound, placesSound};
+use state::Place;
+use state::Queue;
+
+fn place_sound(place: Place) -> bool
+    ensures { λ r. ⌜ r ≡ placeSound place ⌝ }
+{
+    (place.words <= 4096) & (place.ends <= 127)
+}
+
+// As it was queued: nothing sent, nothing read.
+fn is_fresh(place: Place) -> bool
+    ensures { λ r. ⌜ r ≡ isFresh place ⌝ }
+{
+    let unmarked = !place.compare & !place.damaged & !place.sent & !place.read;
+    unmarked & (place.crc_sent == 0xFFFF) & (place.crc_read == 0xFFFF)
+}
+
+fn waits(place: Place) -> bool
+    ensures { λ r. ⌜ r ≡ waitsOf place ⌝ }
+{
+    let some = 0 < place.words as u32 + place.ends as u32;
+    some & is_fresh(place)
+}
+
+fn awaits(place: Place) -> bool
+    ensures { λ r. ⌜ r ≡ awaitsOf place ⌝ }
+{
+    place.sent & !place.read & (0 < place.words)
+}
+
+fn is_done(place: Place) -> bool
+    ensures { λ r. ⌜ r ≡ isDone place ⌝ }
+{
+    place.sent & (place.read | (place.words == 0))
+}
+
+fn role_sound(place: Place, i: u16, begun: u16) -> bool
+    requires { ⌜ i < 8 ⌝ }
+    ensures { λ r. ⌜ r ≡ roleSound begun i place ⌝ }
+{
+    if begun <= i {
+        return waits(place);
+    }
+    if i + 1 < begun {
+        return awaits(place);
+    }
+    !is_done(place)
+}
+
+fn slot_sound(queue: Queue, i: u16) -> bool
+    requires { ⌜ i < 8 ⌝ }
+    ensures { λ r. ⌜ r ≡ slotSound queue i ⌝ }
+{
+    if queue.used <= i {
+        return true;
+    }
+    let place = state::place_at(queue, i);
+    place_sound(place) & role_sound(place, i, queue.begun)
+}
+
+pub fn places_sound(queue: Queue) -> bool
+    ensures { λ r. ⌜ r ≡ placesSound queue ⌝ }
+{
+    let a = slot_sound(queue, 0);
+    let b = slot_sound(queue, 1);
+    let c = slot_sound(queue, 2);
+    let d = slot_sound(queue, 3);
+    let e = slot_sound(queue, 4);
+    let f = slot_sound(queue, 5);
+    let g = slot_sound(queue, 6);
+    let h = slot_sound(queue, 7);
+    a & b & c & d & e & f & g & h
+}
+
+// The words that the places not yet begun have to send. A broken state's `used` may pass the last place.
+pub fn words_waiting(queue: Queue) -> u32
+    ensures { λ r. ⌜ (r ≡ wordsOf (waiting queue)) × (r ≤ 524280) ⌝ }
+{
+    let used = queue.used;
+    let mut words: u32 = 0;
+    let mut i = queue.begun;
+    while i < used {
+        if 8 <= i {
+            return words;
+        }
+        let place = queue.places[i as usize];
+        words = words + place.words as u32;
+        i = i + 1;
+    }
+    words
+}
