@@ -1,3 +1,4 @@
 mod Raised
+mod Sixteen
 pub mod Laws
 mod Examples
