@@ -1,7 +1,6 @@
 // The command words of a frame (01 Frames). Only this crate knows their bits.
 ghost use mathlib.Core.Path.{_≡_};
-ghost use mathlib.Core.Bool.{true, false};
-ghost use Rattle.command.specs.Layout.{write as writeOf, dataRead, spans as spansOf, registerWrite, registerRead, softReset, decodeOurs};
+ghost use Rattle.command.specs.Layout.{spans as spansOf, registerWrite, registerRead, decodeOurs};
 
 // What a command word asks. `crc`: the command is named _CRC and acts at a right CRC word only.
 pub enum Command {
@@ -30,25 +29,6 @@ pub enum Command {
     SoftReset,
 }
 
-// Numbers 2 and 3: the words minus 1.
-fn write_crc(low: u16) -> Command
-    ensures { λ r. ⌜ r ≡ writeOf true 512 low ⌝ }
-{
-    match low {
-        0..=511 => forward(true, low + 1, 0, false),
-        _ => Command::Malformed,
-    }
-}
-
-fn write(low: u16) -> Command
-    ensures { λ r. ⌜ r ≡ writeOf false 4096 low ⌝ }
-{
-    match low {
-        0..=4095 => forward(false, low + 1, 0, false),
-        _ => Command::Malformed,
-    }
-}
-
 fn forward(crc: bool, words: u16, ends: u16, reads: bool) -> Command
     ensures { λ r. ⌜ r ≡ Command.Forward crc words ends reads ⌝ }
 {
@@ -60,17 +40,13 @@ fn forward(crc: bool, words: u16, ends: u16, reads: bool) -> Command
     }
 }
 
-// Numbers 8 and 9.
-fn data_read(crc: bool, low: u16) -> Command
-    ensures { λ r. ⌜ r ≡ dataRead crc low ⌝ }
+fn data_read(crc: bool, words: u16) -> Command
+    ensures { λ r. ⌜ r ≡ Command.DataRead crc words ⌝ }
 {
-    if low < 256 {
-        return Command::DataRead {
-            crc: crc,
-            words: low + 1,
-        };
+    Command::DataRead {
+        crc: crc,
+        words: words,
     }
-    Command::Malformed
 }
 
 // Numbers 10 to 13: registers that exist, from an address on.
@@ -108,38 +84,26 @@ fn register_read(crc: bool, low: u16) -> Command
     Command::Malformed
 }
 
-fn soft_reset(low: u16) -> Command
-    ensures { λ r. ⌜ r ≡ softReset low ⌝ }
-{
-    if low == 0 {
-        return Command::SoftReset;
-    }
-    Command::Malformed
-}
-
-// Thirteen commands by number; filler, and every other word malformed.
+// One decision by number: thirteen commands, filler, and every other word malformed.
 pub fn decode(word: u16) -> Command
     ensures { λ r. ⌜ r ≡ decodeOurs word ⌝ }
 {
-    if word == 0xFFFF {
-        return Command::Filler;
-    }
-    let number = word / 4096;
     let low = word % 4096;
-    match number {
-        2 => write_crc(low),
-        3 => write(low),
-        4 => forward(true, low % 32, low / 32, false),
-        5 => forward(false, low % 32, low / 32, false),
-        6 => forward(true, low % 32 + 1, low / 32, true),
-        7 => forward(false, low % 32 + 1, low / 32, true),
-        8 => data_read(true, low),
-        9 => data_read(false, low),
-        10 => register_write(true, low),
-        11 => register_write(false, low),
-        12 => register_read(true, low),
-        13 => register_read(false, low),
-        14 => soft_reset(low),
+    match word {
+        0x2000..=0x21FF => forward(true, low + 1, 0, false),
+        0x3000..=0x3FFF => forward(false, low + 1, 0, false),
+        0x4000..=0x4FFF => forward(true, low % 32, low / 32, false),
+        0x5000..=0x5FFF => forward(false, low % 32, low / 32, false),
+        0x6000..=0x6FFF => forward(true, low % 32 + 1, low / 32, true),
+        0x7000..=0x7FFF => forward(false, low % 32 + 1, low / 32, true),
+        0x8000..=0x80FF => data_read(true, low + 1),
+        0x9000..=0x90FF => data_read(false, low + 1),
+        0xA000..=0xAFFF => register_write(true, low),
+        0xB000..=0xBFFF => register_write(false, low),
+        0xC000..=0xCFFF => register_read(true, low),
+        0xD000..=0xDFFF => register_read(false, low),
+        0xE000 => Command::SoftReset,
+        0xFFFF => Command::Filler,
         _ => Command::Malformed,
     }
 }
