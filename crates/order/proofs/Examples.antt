@@ -30,7 +30,7 @@ use Rattle.events.specs.Turn.{turned, turn}
 use Rattle.kept.proofs.Fits.{ours-fits}
 use Rattle.order.specs.Accepted.{planOf, came, accepts, collects, joined, settle, logged, logBy, listed, acceptedIn}
 use Rattle.order.specs.Premises.{isPower, typed, fair, premises}
-use Rattle.order.specs.Runs.{Config, outOf, next, endOf, lineBit, soutOf, powerOn, allSent}
+use Rattle.bridge.specs.Runs.{Config, RightStores, outOf, next, endOf, lineBit, soutOf, powerOn, allSent}
 use Rattle.command.specs.Layouts.{ours}
 use Rattle.events.specs.declared.Event.{Event}
 use Rattle.events.specs.declared.Event.the-variants.{Word, Release, Tick, Clock as ClockReading}
@@ -40,6 +40,9 @@ use Rattle.order.proofs.Tests.{are-premises, is-all-sent}
 -- From power-up with good OTP, both stores full of zeros.
 abbrev pub from : Config
 from = powerOn true (replicate 512 0) (replicate 256 0)
+
+zeros : RightStores (replicate 512 0) (replicate 256 0)
+zeros = record { tx-is = length-replicate {A = ℕ} 512 0; rx-is = length-replicate {A = ℕ} 256 0 }
 
 -- The line's bits that nobody drives.
 pub ticks : ℕ → List Event
@@ -66,14 +69,14 @@ sends-all es = allSent (endOf ours from es .bridge .sending)
 shows : (es : List Event) → meets es ≡ true → Sent (readLine (soutOf ours from es)) (acceptedIn ours from es)
 unfolding meets
 shows es h =
-    in-order ours ours-fits true (replicate 512 0) (replicate 256 0) es (length-replicate {A = ℕ} 512 0) (length-replicate {A = ℕ} 256 0)
+    in-order ours ours-fits true (replicate 512 0) (replicate 256 0) zeros es
     (are-premises ours from es h)
 
 shows-all : (es : List Event) → meets es ≡ true → sends-all es ≡ true
     → readLine (soutOf ours from es) .finished ≡ acceptedIn ours from es
 unfolding meets sends-all
 shows-all es h d =
-    all-sent ours ours-fits true (replicate 512 0) (replicate 256 0) es (length-replicate {A = ℕ} 512 0) (length-replicate {A = ℕ} 256 0)
+    all-sent ours ours-fits true (replicate 512 0) (replicate 256 0) zeros es
     (are-premises ours from es h) (is-all-sent _ d)
 
 -- Two call-ups that land together: FWD_WR_CRC of one word, then of two, before a bit is sent.

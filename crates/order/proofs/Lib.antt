@@ -5,10 +5,13 @@ mod Account
 mod Exact
 mod Sending
 mod Hearing
+mod Faults
 mod Frames
 mod Forwards
 mod Plans
 mod Steps
 pub mod Order
+pub mod Asked
+pub mod Closed
 pub mod Tests
 pub mod Examples

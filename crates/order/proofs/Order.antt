@@ -17,14 +17,10 @@ use Rattle.state.specs.Power.{powerUp, badControl, powerUpBad}
 use Rattle.state.specs.Queue.{waiting}
 use Rattle.state.specs.declared.Sending.{Sending}
 use Rattle.events.specs.Events.{powered}
-use Rattle.events.specs.Turn.{turned, turn}
 use Rattle.events.specs.declared.Event.{Event}
-use Rattle.events.proofs.Keeps.{rules-keep}
 use Rattle.kept.proofs.Fits.{LayoutFit}
-use Rattle.events.proofs.Quiet.{power-keeps}
-use Rattle.kept.specs.Rules.{BridgeRules}
-use Rattle.kept.proofs.Sound.{facts-sound}
-use Rattle.order.specs.Runs.{Config, outOf, next, endOf, lineBit, soutOf, powerOn, AllSent}
+use Rattle.bridge.specs.Runs.{Config, RightStores, outOf, next, endOf, lineBit, soutOf, powerOn, AllSent}
+use Rattle.bridge.proofs.Reached.{Obeys, obeyed-turn, step-obeys, power-obeys}
 use Rattle.order.specs.Accepted.{planOf, Log, noLog, logged, logBy, listed, acceptedIn}
 use Rattle.order.specs.Premises.{Fair, Premises, typed}
 use Rattle.order.specs.Exactly.{Exactly, Whole}
@@ -33,32 +29,22 @@ use Rattle.order.proofs.Account.{countsOf, concat, lengths}
 use Rattle.order.proofs.Exact.{exact-power, exact-sent, exact-exactly, exact-whole, whole-read}
 use Rattle.order.proofs.Sending.{Holds, inTx}
 use Rattle.order.proofs.Frames.{Kept, listed-kept}
-use Rattle.order.proofs.Steps.{Between, step-turn, between-turn}
+use Rattle.order.proofs.Steps.{Between, between-turn}
 
 module _ (l : Layout) (fits : LayoutFit l) where
-  -- No event of a run meets notes 1 and 2: the record rules are kept.
-  rules-next : (c : Config) (bits : List Bool) (g : Log) (e : Event) → Between c bits g → BridgeRules (c .bridge)
-      → BridgeRules (next l c e .bridge)
-  unfolding next outOf turn turned
-  rules-next c bits g e i r =
-      rw (step-turn l (c .bridge) (c .tx) (c .rx) e (i .holds .cells-are) (i .rx-is) (facts-sound (c .bridge) r))
-      (rules-keep l fits (c .bridge) e _ _ r)
-
-  between-step : (c : Config) (bits : List Bool) (g : Log) (e : Event) → Between c bits g → BridgeRules (c .bridge) → Fair l c e
+  between-step : (c : Config) (bits : List Bool) (g : Log) (e : Event) → Between c bits g → Obeys c → Fair l c e
       → Between (next l c e) (bits ++ lineBit e (outOf l c e .answer .sout)) (logged g (planOf l c e))
-  unfolding next outOf
-  between-step c bits g e i r f =
-      between-turn l c bits g i e _
-      (step-turn l (c .bridge) (c .tx) (c .rx) e (i .holds .cells-are) (i .rx-is) (facts-sound (c .bridge) r)) (f .typed) (f .no-power)
-      (f .no-clear) (f .no-cut) (f .no-fault)
+  unfolding next
+  between-step c bits g e i o f =
+      between-turn l c bits g i e _ (obeyed-turn l fits c e o) (f .typed) (f .no-power) (f .no-clear) (f .no-underflow)
 
-  between-run : (c : Config) (bits : List Bool) (g : Log) (es : List Event) → Between c bits g → BridgeRules (c .bridge)
-      → Premises l c es → Between (endOf l c es) (bits ++ soutOf l c es) (logBy l g c es)
+  between-run : (c : Config) (bits : List Bool) (g : Log) (es : List Event) → Between c bits g → Obeys c → Premises l c es
+      → Between (endOf l c es) (bits ++ soutOf l c es) (logBy l g c es)
   unfolding endOf soutOf logBy
-  between-run c bits g [] i r p = rw append-nil i
-  between-run c bits g (e ∷ es) i r p =
+  between-run c bits g [] i o p = rw append-nil i
+  between-run c bits g (e ∷ es) i o p =
       rw (← (append-assoc bits (lineBit e (outOf l c e .answer .sout)) (soutOf l (next l c e) es)))
-      (between-run (next l c e) _ _ es (between-step c bits g e i r (p .0)) (rules-next c bits g e i r) (p .1))
+      (between-run (next l c e) _ _ es (between-step c bits g e i o (p .0)) (step-obeys l fits c e o) (p .1))
 
 holds-power : (good : Bool) (tx : List ℕ) → length tx ≡ 512 → Holds (powered good .sending) tx [] [] []
 unfolding powered pick powerUp powerUpBad view waiting countsOf
@@ -77,10 +63,10 @@ unfolding powered pick powerUp powerUpBad powerUpControl powerUpFlags badControl
 clear-power true = refl
 clear-power false = refl
 
-between-power : (good : Bool) (tx rx : List ℕ) → length tx ≡ 512 → length rx ≡ 256 → Between (powerOn good tx rx) [] noLog
+between-power : (good : Bool) (tx rx : List ℕ) → RightStores tx rx → Between (powerOn good tx rx) [] noLog
 unfolding powerOn
-between-power good tx rx t r =
-    record { S = []; K = []; holds = holds-power good tx t; kept = kept-power good; no-fault = clear-power good; rx-is = r }
+between-power good tx rx r =
+    record { S = []; K = []; holds = holds-power good tx (r .tx-is); kept = kept-power good; no-fault = clear-power good; rx-is = r .rx-is }
 
 -- What the end of a run says of its line.
 in-order-between : (c : Config) (bits : List Bool) (g : Log) → Between c bits g → Sent (readLine bits) (listed g)
@@ -108,11 +94,10 @@ premises-before l c [] rest p = tt
 premises-before l c (e ∷ es) rest p = (p .0, premises-before l (next l c e) es rest (p .1))
 
 -- Every run from power-up, by a layout whose commands are within the ranges of the record rules.
-module _ (l : Layout) (fits : LayoutFit l) (good : Bool) (tx rx : List ℕ) (es : List Event) (t : length tx ≡ 512) (r : length rx ≡ 256)
+module _ (l : Layout) (fits : LayoutFit l) (good : Bool) (tx rx : List ℕ) (stores : RightStores tx rx) (es : List Event)
     (p : Premises l (powerOn good tx rx) es) where
   at-end : Between (endOf l (powerOn good tx rx) es) (soutOf l (powerOn good tx rx) es) (logBy l noLog (powerOn good tx rx) es)
-  unfolding powerOn
-  at-end = between-run l fits (powerOn good tx rx) [] noLog es (between-power good tx rx t r) (power-keeps good) p
+  at-end = between-run l fits (powerOn good tx rx) [] noLog es (between-power good tx rx stores) (power-obeys l fits good tx rx stores) p
 
   -- The commands finished on the line are the first so many accepted, in order, every word unchanged; the one under way shows the first words
   -- of the next.

@@ -1,9 +1,7 @@
--- Every plan of a host word or of a release of chip select that clears nothing and cuts no frame short keeps the frames' account. Assumes
--- nothing.
+-- Every plan of a host word or of a release of chip select that clears nothing keeps the frames' account. Assumes nothing.
 use mathlib.Core.Path.{_≡_, refl}
 use mathlib.Core.Bool.{Bool, true, false, not, _&&_}
 use mathlib.Core.List.{List, _++_}
-use mathlib.Core.Logic.{_≢_}
 use Prim.Native.Nat.{ℕ, _+_, _-_, _≤_, _<_}
 use native.Mathlib.Omega.{arith}
 use lib.Dec.{ltb, leb, eqb}
@@ -15,7 +13,6 @@ use Rattle.command.specs.declared.Command.{Command}
 use Rattle.command.specs.declared.Command.the-variants.{Filler, Malformed, Forward, DataRead, RegisterWrite, RegisterRead, SoftReset}
 use Rattle.registers.specs.Registers.{blocking}
 use Rattle.state.specs.Frame.{dataWords}
-use Rattle.state.specs.Notes.{noteNumber}
 use Rattle.state.specs.declared.Bridge.{Bridge}
 use Rattle.state.specs.declared.Deed.the-variants.{Leave, ClearAll}
 use Rattle.state.specs.declared.Phase.{Phase}
@@ -24,7 +21,7 @@ use Rattle.state.specs.declared.Reply.{Reply}
 use Rattle.state.specs.declared.Reply.the-variants.{Status, Data, Registers, Check}
 use Rattle.state.specs.declared.Store.the-variants.{Keep, Put}
 use Rattle.host.specs.Forward.{asksStore, clears, enqueues, mineAfter, faulted, forwarded, releases, forwardWord, forwardBegun}
-use Rattle.host.specs.Frames.{opened, heldWord, registerWord, dataWord, closed, wrongCrc, forwardClosed, registersClosed, readClosed, resetClosed, crcDue, answerWith, dataAnswered, registerAnswered, answered, plannedIn, planned, cut, releasedIn}
+use Rattle.host.specs.Frames.{opened, heldWord, registerWord, dataWord, closed, wrongCrc, forwardClosed, registersClosed, readClosed, resetClosed, crcDue, answerWith, dataAnswered, registerAnswered, answered, plannedIn, planned, cutDeed, cut, releasedIn}
 use Rattle.host.specs.declared.Granted.{Granted}
 use Rattle.host.specs.declared.Plan.{Plan}
 use Rattle.host.specs.declared.Receive.the-variants.{LeaveRx}
@@ -235,10 +232,42 @@ module _ (b : Bridge) (g : Log) (S K : List ℕ) where
   unfolding planned
   goes-word l w x small reach f h k = planned-in l (b .frame .phase) w x small reach f h k
 
-  -- Chip select released, and no frame cut short.
-  pub goes-release : (ph : Phase) → Kept ph g S K → noteNumber (releasedIn b ph .note) ≢ 12 → GoesBy (b .sending) g S K (releasedIn b ph)
-  unfolding releasedIn cut Kept
-  goes-release Idle h n = quiet h Idle rests-idle
-  goes-release (Collecting command got sum mine released blocked) h n = absurd (n refl)
-  goes-release (Answering reply sum) h n = quiet h Idle rests-idle
-  goes-release Discarding h n = quiet h Idle rests-idle
+  -- Chip select released, also before the CRC word.
+  status-off : {ph : Phase} {st : _} {d : _} → Goes (b .sending) g S K ph st d true → Goes (b .sending) g S K ph st d false
+  status-off x = record { storable = x .storable; feasible = x .feasible; kept = x .kept; ends = λ e. never false e refl }
+
+  cut-shut : (command : Command) (got mine : ℕ) (released : Bool) → Shut g S K → mine ≡ 0 → clears (cutDeed command got mine released) ≡ false
+      → Goes (b .sending) g S K Idle Keep (cutDeed command got mine released) false
+  unfolding cutDeed clears
+  cut-shut command got mine released h z =
+      pick-keeps (λ d. clears d ≡ false → Goes (b .sending) g S K Idle Keep d false) _ _ _
+      (λ t. pick-keeps (λ d. clears d ≡ false → Goes (b .sending) g S K Idle Keep d false) _ _ _ (λ u k. never true refl k) (λ u k. quiet h Idle rests-idle))
+      (λ t k. status-off (over-nothing (b .sending) g S K mine h z))
+
+  cut-open : Reach → (crc : Bool) (words ends : ℕ) (reads : Bool) (got mine : ℕ) (released : Bool) → Open crc words got mine released g S K
+      → clears (cutDeed (Forward crc words ends reads) got mine released) ≡ false
+      → Goes (b .sending) g S K Idle Keep (cutDeed (Forward crc words ends reads) got mine released) false
+  unfolding cutDeed clears Open dataWords pick
+  cut-open reach crc words ends reads got mine true h =
+      pick-keeps (λ d. clears d ≡ false → Goes (b .sending) g S K Idle Keep d false) (ltb got words) _ _ (λ u k. never true refl k)
+      (λ u k. status-off (over-released (b .sending) g S K crc words got h (ltb-false _ _ u)))
+  cut-open reach crc words ends reads got mine false h =
+      λ k.
+      let r : length (g .words) ≤ b .sending .tx .count = reach (g .closed) (g .words) (h .stored-are) (h .counts-are) in
+      status-off (over-back (b .sending) g S K crc words got mine h (omega (arith, h .mine-are, h .came-are, r)))
+
+  pub goes-release : (ph : Phase) → Reach → Kept ph g S K → clears (releasedIn b ph .deed) ≡ false → GoesBy (b .sending) g S K (releasedIn b ph)
+  unfolding releasedIn cut Kept InFrame
+  goes-release Idle r h n = quiet h Idle rests-idle
+  goes-release (Collecting Filler got sum mine released blocked) r h n = cut-shut Filler got mine released (h .0) (h .1) n
+  goes-release (Collecting Malformed got sum mine released blocked) r h n = cut-shut Malformed got mine released (h .0) (h .1) n
+  goes-release (Collecting (Forward crc words ends reads) got sum mine released blocked) r h n =
+      cut-open r crc words ends reads got mine released (h .0) n
+  goes-release (Collecting (DataRead crc words) got sum mine released blocked) r h n = cut-shut (DataRead crc words) got mine released (h .0) (h .1) n
+  goes-release (Collecting (RegisterWrite crc address count) got sum mine released blocked) r h n =
+      cut-shut (RegisterWrite crc address count) got mine released (h .0) (h .1) n
+  goes-release (Collecting (RegisterRead crc address count) got sum mine released blocked) r h n =
+      cut-shut (RegisterRead crc address count) got mine released (h .0) (h .1) n
+  goes-release (Collecting SoftReset got sum mine released blocked) r h n = cut-shut SoftReset got mine released (h .0) (h .1) n
+  goes-release (Answering reply sum) r h n = quiet h Idle rests-idle
+  goes-release Discarding r h n = quiet h Idle rests-idle

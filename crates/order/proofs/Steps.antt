@@ -5,45 +5,38 @@ use mathlib.Core.List.{List, [], _∷_, _++_, append-nil}
 use mathlib.Core.Logic.{_≢_}
 use Prim.Native.Nat.{ℕ, _+_, _-_, _≤_}
 use native.Mathlib.Omega.{arith}
-use lib.ListN.{length, length-set}
-use borrow.Author.Tests.{eq-eqb}
+use lib.ListN.{length}
 use Rattle.base.specs.Pick.{pick, pick-keeps}
 use Rattle.command.specs.Layouts.{Layout}
 use Rattle.registers.specs.Registers.{blocking}
-use Rattle.registers.specs.Raising.{raised}
 use Rattle.registers.specs.declared.Control.{Control}
-use Rattle.registers.specs.declared.Flag.the-variants.{LineCrc, TxUvf}
-use Rattle.registers.specs.declared.Flags.{Flags}
-use Rattle.rules.specs.Sound.{sound}
 use Rattle.state.specs.Notes.{noteNumber}
 use Rattle.state.specs.Rings.{oldest, written}
-use Rattle.state.specs.declared.Bridge.{Bridge}
 use Rattle.state.specs.declared.Clock.{Clock}
 use Rattle.state.specs.declared.Phase.{Phase}
 use Rattle.state.specs.declared.Phase.the-variants.{Idle}
-use Rattle.state.specs.declared.Ring.{Ring}
-use Rattle.state.specs.declared.Store.{Store}
-use Rattle.state.specs.declared.Store.the-variants.{Keep, Put}
 use Rattle.sender.specs.Sender.{mayStart, choose, advanced, sentBy, tickSender}
 use Rattle.sender.specs.declared.Sent.{Sent as SentBits}
 use Rattle.reader.specs.Reader.{tickReader}
 use Rattle.host.specs.Plan.{settled, concluded, marked, performed}
 use Rattle.host.specs.Forward.{clears}
 use Rattle.host.specs.declared.Plan.{Plan}
-use Rattle.events.specs.Events.{hosted, starvedFlags, flagsSent, phaseAfter, controlTicked, tickEnds, tickHears, ticked, clocked, reacted}
-use Rattle.bridge.specs.Step.{step}
+use Rattle.events.specs.Events.{hosted, flagsSent, phaseAfter, controlTicked, tickEnds, tickHears, ticked, clocked, reacted}
 use Rattle.events.specs.Turn.{Out, turned, turn}
 use Rattle.events.specs.declared.Event.{Event}
 use Rattle.events.specs.declared.Event.the-variants.{Power, Word, Release, Tick, Clock as ClockReading}
-use Rattle.order.specs.Runs.{Config, leftBy, lineBit}
+use Rattle.bridge.specs.Runs.{Config, leftBy, lineBit}
+use Rattle.bridge.proofs.Plans.{tame-word, tame-release}
+use Rattle.bridge.proofs.Reached.{length-written}
 use Rattle.order.specs.Accepted.{planOf, Log, came, accepts, logged}
-use Rattle.order.specs.Premises.{Typed, isPower}
-use Rattle.order.proofs.Truth.{never, or-l, or-r}
+use Rattle.order.specs.Premises.{Typed, isPower, underflow}
+use Rattle.order.proofs.Truth.{never}
 use Rattle.order.proofs.Ring.{length-view}
 use Rattle.order.proofs.Waiting.{leaves-then}
 use Rattle.order.proofs.Account.{concat, lengths, still-there}
 use Rattle.order.proofs.Sending.{Holds, inTx, holds-stored, holds-done, holds-queue, leaves-finished, holds-tick}
-use Rattle.order.proofs.Hearing.{leaves-heard, pick-clear, heard-clear}
+use Rattle.order.proofs.Hearing.{leaves-heard}
+use Rattle.order.proofs.Faults.{not-starved, tick-calm, clock-calm}
 use Rattle.order.proofs.Frames.{Kept, GoesBy, kept-same}
 use Rattle.order.proofs.Plans.{goes-word, goes-release}
 
@@ -56,18 +49,6 @@ pub record Between (c : Config) (bits : List Bool) (g : Log) : Type 0 where
   pub no-fault : blocking (c .bridge .control .flags) ≡ false
   pub rx-is : length (c .rx) ≡ 256
 
--- A store of the right length keeps it.
-length-written : (size : ℕ) (cells : List ℕ) (r : Ring) (st : Store) → length (written size cells r st) ≡ length cells
-unfolding written
-length-written size cells r Keep = refl
-length-written size cells r (Put w) = length-set cells _ w
-
--- Without notes 1 and 2 an event is its rule carried out.
-pub step-turn : (l : Layout) (b : Bridge) (tx rx : List ℕ) (e : Event) → length tx ≡ 512 → length rx ≡ 256 → sound b ≡ true
-    → step l b tx rx e ≡ turn l b tx rx e
-unfolding step pick
-step-turn l b tx rx e t r s = rw (eq-eqb (length tx) 512 t, eq-eqb (length rx) 256 r, s)
-
 -- The phase after a plan.
 kept-concluded : (l : Layout) (status : Bool) (c : Control) (ph : Phase) (g : Log) (S K : List ℕ) → (status ≡ true → ph ≡ Idle)
     → Kept ph g S K → Kept (concluded l status c ph) g S K
@@ -75,18 +56,6 @@ unfolding concluded Kept
 kept-concluded l status c ph g S K e h =
     pick-keeps (λ (q : Phase). Kept q g S K) _ _ _
     (λ t. pick-keeps (λ (q : Phase). Kept q g S K) _ _ _ (λ u. rw (e t) at h) (λ u. rw (e t) at h)) (λ t. h)
-
--- A tick that leaves no blocking flag up had the word that it needed.
-not-starved : (f : Flags) (starved : Bool) → blocking (pick starved (raised f TxUvf) f) ≡ false → starved ≡ false
-unfolding pick blocking raised
-not-starved f true h =
-    or-l true (f .txffuvf)
-    (or-r (false || f .txffovf) (true || f .txffuvf) (or-l ((false || f .txffovf) || (true || f .txffuvf)) (false || f .«queue_ovf») h))
-not-starved f false h = refl
-
-sent-clear : (f : Flags) (s : SentBits) → blocking (flagsSent f s) ≡ false → s .starved ≡ false
-unfolding flagsSent starvedFlags
-sent-clear f s h = not-starved f (s .starved) (pick-clear (pick (s .starved) (raised f TxUvf) f) (s .differs) LineCrc h)
 
 module _ (l : Layout) (c : Config) (bits : List Bool) (g : Log) (i : Between c bits g) where
   reach : (D : List (List ℕ)) (ws : List ℕ) → i .S ≡ concat D ++ ws → i .K ≡ lengths D → length ws ≤ c .bridge .sending .tx .count
@@ -99,9 +68,9 @@ module _ (l : Layout) (c : Config) (bits : List Bool) (g : Log) (i : Between c b
 
   -- A plan carried out.
   between-hosted : (clock : Clock) (p : Plan) → GoesBy (c .bridge .sending) g (i .S) (i .K) p
-      → blocking (performed l (c .bridge) clock p .control .flags) ≡ false
+      → blocking (p .control .flags) ≡ false
       → Between (leftBy (turned (c .bridge) (c .tx) (c .rx) (hosted l (c .bridge) clock p))) bits (logged g p)
-  unfolding performed turned logged written
+  unfolding performed settled turned logged written
   between-hosted clock p h f =
       record {
         S = _;
@@ -114,16 +83,15 @@ module _ (l : Layout) (c : Config) (bits : List Bool) (g : Log) (i : Between c b
         rx-is = i .rx-is;
       }
 
-  between-tick : (sin : Bool)
-      → blocking (ticked (c .bridge) sin (oldest (c .tx) (c .bridge .sending .tx)) .bridge .control .flags) ≡ false
+  between-tick : (sin : Bool) → noteNumber (ticked (c .bridge) sin (oldest (c .tx) (c .bridge .sending .tx)) .note) ≢ 13
       → Between (leftBy (turned (c .bridge) (c .tx) (c .rx) (ticked (c .bridge) sin (oldest (c .tx) (c .bridge .sending .tx)))))
       (bits ++ (ticked (c .bridge) sin (oldest (c .tx) (c .bridge .sending .tx)) .sout ∷ [])) (logged g (planOf l c (Tick sin)))
   unfolding ticked tickHears tickEnds phaseAfter controlTicked tickSender sentBy turned settled planOf logged came accepts written
-  between-tick sin f =
+  between-tick sin n =
       let b = c .bridge in
       let w = oldest (c .tx) (b .sending .tx) in
       let s : SentBits = tickSender (b .sending) (mayStart (b .control)) w in
-      let z : s .starved ≡ false = sent-clear (b .control .flags) s (heard-clear (b .receiving) (s .sending .queue) _ sin f) in
+      let z : s .starved ≡ false = not-starved b sin w n in
       let h = holds-tick (b .sending) (c .tx) bits (i .S) (i .K) (i .holds) (mayStart (b .control)) z in
       let v = leaves-finished (advanced (choose (b .sending) (mayStart (b .control))) (b .sending) w) (h .queue) in
       record {
@@ -133,39 +101,41 @@ module _ (l : Layout) (c : Config) (bits : List Bool) (g : Log) (i : Between c b
         kept =
             pick-keeps (λ (q : Phase). Kept q (logged g (planOf l c (Tick sin))) (i .S) (i .K)) _ _ _ (λ t. never (s .starved) t z)
             (λ t. kept-same (b .sending) g (i .S) (i .K) (b .frame .phase) (i .kept));
-        no-fault = f;
+        no-fault = tick-calm b sin w (i .no-fault) z;
         rx-is =
             length-written 256 (c .rx) (b .receiving .rx)
             (tickReader (b .receiving) (s .sending .queue) (flagsSent (b .control .flags) s) sin .store) ∙ i .rx-is;
       }
 
-  between-clock : (reading : ℕ) → blocking (clocked (c .bridge) reading .bridge .control .flags) ≡ false
+  between-clock : (reading : ℕ)
       → Between (leftBy (turned (c .bridge) (c .tx) (c .rx) (clocked (c .bridge) reading))) bits (logged g (planOf l c (ClockReading reading)))
   unfolding clocked turned written planOf logged came accepts
-  between-clock reading f =
+  between-clock reading =
       record {
         S = i .S;
         K = i .K;
         holds = i .holds;
         kept = kept-same (c .bridge .sending) g (i .S) (i .K) (c .bridge .frame .phase) (i .kept);
-        no-fault = f;
+        no-fault = clock-calm (c .bridge) reading (i .no-fault);
         rx-is = i .rx-is;
       }
 
   -- Any event, by its rule.
   pub between-turn : (e : Event) (o : Out) → o ≡ turn l (c .bridge) (c .tx) (c .rx) e → Typed e → isPower e ≡ false
-      → clears (planOf l c e .deed) ≡ false → noteNumber (o .answer .note) ≢ 12 → blocking (o .answer .state .control .flags) ≡ false
+      → clears (planOf l c e .deed) ≡ false → noteNumber (o .answer .note) ≢ underflow
       → Between (leftBy o) (bits ++ lineBit e (o .answer .sout)) (logged g (planOf l c e))
   unfolding turn turned reacted lineBit isPower planOf
-  between-turn (Power good) o q t p k n f = never true refl p
-  between-turn (Word w) o q t p k n f =
+  between-turn (Power good) o q t p k n = never true refl p
+  between-turn (Word w) o q t p k n =
+      let x = oldest (c .rx) (c .bridge .receiving .rx) in
       rw (q, append-nil)
       (between-hosted (marked (c .bridge .clock)) (planOf l c (Word w))
-      (goes-word (c .bridge) g (i .S) (i .K) l w (oldest (c .rx) (c .bridge .receiving .rx)) t reach (i .no-fault) (i .kept) k)
-      (rw q at f))
-  between-turn Release o q t p k n f =
+      (goes-word (c .bridge) g (i .S) (i .K) l w x t reach (i .no-fault) (i .kept) k)
+      (tame-word (c .bridge) l w x .calm (i .no-fault) k))
+  between-turn Release o q t p k n =
       rw (q, append-nil)
       (between-hosted (c .bridge .clock) (planOf l c Release)
-      (goes-release (c .bridge) g (i .S) (i .K) (c .bridge .frame .phase) (i .kept) (rw q at n)) (rw q at f))
-  between-turn (Tick sin) o q t p k n f = rw q (between-tick sin (rw q at f))
-  between-turn (ClockReading reading) o q t p k n f = rw (q, append-nil) (between-clock reading (rw q at f))
+      (goes-release (c .bridge) g (i .S) (i .K) (c .bridge .frame .phase) reach (i .kept) k)
+      (tame-release (c .bridge) (c .bridge .frame .phase) .calm (i .no-fault) k))
+  between-turn (Tick sin) o q t p k n = rw q (between-tick sin (rw q at n))
+  between-turn (ClockReading reading) o q t p k n = rw (q, append-nil) (between-clock reading)

@@ -18,7 +18,7 @@ use Rattle.host.specs.Frames.{planned, releasedIn}
 use Rattle.host.specs.declared.Plan.{Plan}
 use Rattle.events.specs.declared.Event.{Event}
 use Rattle.events.specs.declared.Event.the-variants.{Power, Word, Release, Tick, Clock as ClockReading}
-use Rattle.order.specs.Runs.{Config, next}
+use Rattle.bridge.specs.Runs.{Config, next}
 
 -- what the host's side does at an event: at a tick and at a clock reading, nothing
 unfoldable pub planOf : Layout → Config → Event → Plan

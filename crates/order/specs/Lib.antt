@@ -1,4 +1,4 @@
-pub mod Runs
 pub mod Accepted
 pub mod Premises
 pub mod Exactly
+pub mod Demand

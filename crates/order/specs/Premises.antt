@@ -12,7 +12,7 @@ use Rattle.state.specs.Notes.{noteNumber}
 use Rattle.host.specs.Forward.{clears}
 use Rattle.events.specs.declared.Event.{Event}
 use Rattle.events.specs.declared.Event.the-variants.{Power, Word, Release, Tick, Clock as ClockReading}
-use Rattle.order.specs.Runs.{Config, outOf, next}
+use Rattle.bridge.specs.Runs.{Config, outOf, next}
 use Rattle.order.specs.Accepted.{planOf}
 
 -- words and readings are of sixteen bits
@@ -30,23 +30,42 @@ isPower Release = false
 isPower (Tick sin) = false
 isPower (ClockReading reading) = false
 
--- note 12. 01 Notes
+-- note 12: "chip select released before the CRC word"; note 13: "sender needs a word, TX empty". 01 Notes
 abbrev pub cutShort : ℕ
 cutShort = 12
 
--- `clears` are the deeds of a transmit clear and of a soft reset; `blocking` flags are TXFFOVF, TXFFUVF and QUEUE_OVF
+abbrev pub underflow : ℕ
+underflow = 13
+
+-- a transmit clear or a soft reset
+abbrev pub clearing : Layout → Config → Event → Bool
+clearing l c e = clears (planOf l c e .deed)
+
+-- What the theorems ask of an event. Notes 8 and 9, the other faults of the transmit side and of the queue, are transmit clears, and so is a
+-- cut that loses what was accepted.
 pub record Fair (l : Layout) (c : Config) (e : Event) : Type 0 where
   pub typed : Typed e
   pub no-power : isPower e ≡ false
-  pub no-clear : clears (planOf l c e .deed) ≡ false
-  pub no-cut : noteNumber (outOf l c e .answer .note) ≢ cutShort
-  pub no-fault : blocking (next l c e .bridge .control .flags) ≡ false
+  pub no-clear : clearing l c e ≡ false
+  pub no-underflow : noteNumber (outOf l c e .answer .note) ≢ underflow
 
 abbrev pub Premises : Layout → Config → List Event → Type 0
 Premises l c [] = Unit {0}
 Premises l c (e ∷ es) = Fair l c e × Premises l (next l c e) es
 
--- The same as a test, for runs that are computed.
+-- What demand 3 itself asks, in its own order; it is more than `Fair`. `blocking` flags are TXFFOVF, TXFFUVF and QUEUE_OVF.
+pub record FairAsAsked (l : Layout) (c : Config) (e : Event) : Type 0 where
+  pub typed : Typed e
+  pub no-fault : blocking (next l c e .bridge .control .flags) ≡ false
+  pub no-clear : clearing l c e ≡ false
+  pub no-power : isPower e ≡ false
+  pub no-cut : noteNumber (outOf l c e .answer .note) ≢ cutShort
+
+abbrev pub AskedPremises : Layout → Config → List Event → Type 0
+AskedPremises l c [] = Unit {0}
+AskedPremises l c (e ∷ es) = FairAsAsked l c e × AskedPremises l (next l c e) es
+
+-- `Premises` as a test, for runs that are computed.
 unfoldable pub typed : Event → Bool
 typed (Power good) = true
 typed (Word w) = ltb w 65536
@@ -56,8 +75,7 @@ typed (ClockReading reading) = ltb reading 65536
 
 unfoldable pub fair : Layout → Config → Event → Bool
 fair l c e =
-    typed e && not (isPower e) && not (clears (planOf l c e .deed)) && not (eqb (noteNumber (outOf l c e .answer .note)) cutShort)
-    && not (blocking (next l c e .bridge .control .flags))
+    typed e && not (isPower e) && not (clearing l c e) && not (eqb (noteNumber (outOf l c e .answer .note)) underflow)
 
 unfoldable pub premises : Layout → Config → List Event → Bool
 premises l c [] = true

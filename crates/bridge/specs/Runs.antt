@@ -1,16 +1,20 @@
 -- Runs of the bridge (01 What the bridge is): a state with both stores, from one event to the next, each event lent the stores as the last
 -- one left them. Assumes nothing.
 use mathlib.Core.Path.{_≡_}
-use mathlib.Core.Bool.{Bool, true, _&&_}
+use mathlib.Core.Bool.{Bool, true, _&&_, _||_}
 use mathlib.Core.List.{List, [], _∷_, _++_}
 use Prim.Native.Nat.{ℕ}
 use lib.Dec.{eqb}
+use lib.ListN.{length}
 use Rattle.command.specs.Layouts.{Layout}
+use Rattle.state.specs.Notes.{noteNumber}
+use Rattle.state.specs.Rings.{txSize, rxSize}
 use Rattle.state.specs.Sending.{idle}
 use Rattle.state.specs.declared.Bridge.{Bridge}
+use Rattle.state.specs.declared.Note.{Note}
 use Rattle.state.specs.declared.Sending.{Sending}
 use Rattle.events.specs.Events.{powered}
 use Rattle.bridge.specs.Step.{step}
 use Rattle.events.specs.Turn.{Out}
 use Rattle.events.specs.declared.Event.{Event}
 use Rattle.events.specs.declared.Event.the-variants.{Power, Word, Release, Tick, Clock as ClockReading}
@@ -19,6 +23,15 @@ pub record Config : Type 0 where
   pub bridge : Bridge
   pub tx : List ℕ
   pub rx : List ℕ
+
+-- "TX 512, RX 256"
+pub record RightStores (tx rx : List ℕ) : Type 0 where
+  pub tx-is : length tx ≡ txSize
+  pub rx-is : length rx ≡ rxSize
+
+-- notes 1 and 2: the event is refused. 01 Notes
+unfoldable pub refuses : Note → Bool
+refuses n = eqb (noteNumber n) 1 || eqb (noteNumber n) 2
 
 -- what an event gives there
 unfoldable pub outOf : Layout → Config → Event → Out
