@@ -5,17 +5,14 @@ use mathlib.Core.List.{List}
 use Prim.Native.Nat.{ℕ, suc, _+_, _-_, _<_, _≤_}
 use native.Mathlib.Omega.{arith}
 use lib.Dec.{eqb}
-use lib.ListN.{length, length-set}
+use lib.ListN.{length}
 use Rattle.base.specs.Pick.{pick, pick-true, pick-false, pick-eq, pick-ne}
 use Rattle.command.specs.Layouts.{ours}
 use Rattle.state.specs.Notes.{noteNumber}
-use Rattle.state.specs.Rings.{txSize, rxSize, oldest, written}
+use Rattle.state.specs.Rings.{txSize, rxSize, oldest}
 use Rattle.state.specs.declared.Bridge.{Bridge}
 use Rattle.state.specs.declared.Note.{Note}
 use Rattle.state.specs.declared.Note.the-variants.{Done}
-use Rattle.state.specs.declared.Ring.{Ring}
-use Rattle.state.specs.declared.Store.{Store}
-use Rattle.state.specs.declared.Store.the-variants.{Keep, Put}
 use Rattle.rules.specs.Sound.{sound}
 use Rattle.kept.proofs.Fits.{ours-fits}
 use Rattle.events.specs.Turn.{Out, out, Ready, turned, turn}
@@ -23,6 +20,7 @@ use Rattle.events.specs.declared.Answer.{Answer}
 use Rattle.events.specs.declared.Event.{Event}
 use Rattle.events.specs.declared.Event.the-variants.{Tick}
 use Rattle.events.proofs.Keeps.{keeps, eight-kept}
+use Rattle.bridge.proofs.Reached.{length-written}
 use Rattle.drain.specs.Drain.{End, end, stopped, atRest, tickOn, runOf}
 use Rattle.drain.specs.declared.Drained.{Drained}
 
@@ -36,11 +34,6 @@ is-ready t b tx rx h k o f = record { tx-length = h; rx-length = k; rules = sym 
 
 pub to-refused : (b : Bridge) (tx rx : List ℕ) (n : Note) (d : Drained) → d ≡ record { state = b; ticks = 0; note = n } → end d tx rx ≡ stopped b tx rx 0 n
 to-refused b tx rx n d e = ap (λ (x : Drained). end x tx rx) e
-
-length-written : (size : ℕ) (cells : List ℕ) (r : Ring) (st : Store) → length (written size cells r st) ≡ length cells
-unfolding written
-length-written size cells r Keep = refl
-length-written size cells r (Put w) = length-set cells _ w
 
 abbrev Kept : Out → Type 0
 Kept o = Fit (o .answer .state) (o .tx) (o .rx)

@@ -1,5 +1,6 @@
 -- Draining (01 The line, "Draining"): "ticks with SIN 1 until the sender is idle and nothing may start, a note other than 0, or the budget's
 -- end. The number of ticks made is returned, refused ones (1, 2) not counted." Assumes nothing.
+use mathlib.Core.Path.{_≡_, sym, _∙_, ap}
 use mathlib.Core.Bool.{Bool, true, not, _&&_}
 use mathlib.Core.List.{List}
 use Prim.Native.Nat.{ℕ, zero, suc, _+_}
@@ -27,6 +28,11 @@ pub record End : Type 0 where
 
 abbrev pub end : Drained → List ℕ → List ℕ → End
 end d tx rx = record { drained = d; tx = tx; rx = rx }
+
+-- two results with their stores that satisfy one contract are the same
+pub one-end : (e : End) (d f : Drained) (t u r s : List ℕ) → end d t r ≡ e → end f u s ≡ e → (d ≡ f) × ((t ≡ u) × (r ≡ s))
+one-end e d f t u r s p q =
+    (ap (λ (x : End). x .drained) (p ∙ sym q), (ap (λ (x : End). x .tx) (p ∙ sym q), ap (λ (x : End). x .rx) (p ∙ sym q)))
 
 -- so many ticks made, stopped with this note
 abbrev pub stopped : Bridge → List ℕ → List ℕ → ℕ → Note → End

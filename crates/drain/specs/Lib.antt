@@ -1,2 +1,3 @@
 pub mod Drain
 pub mod Cost
+pub mod Steps

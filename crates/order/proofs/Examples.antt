@@ -14,7 +14,7 @@ use Rattle.registers.specs.Writing.{writeStatus, writeMasked, writeOf, writeTxf
 use Rattle.line.specs.Format.{checkBit, pieceLength, wordBit, pieceBit}
 use Rattle.line.specs.Reader.{Sent, runOn, shiftIn, atCheck, inGroup, inLost, hear, readLine}
 use Rattle.state.specs.Frame.{dataWords, mineOf, owedBy, toCome, collectSound, replySound, phaseSound}
-use Rattle.state.specs.Power.{powerUp}
+use Rattle.state.specs.Power.{powerUp, badControl, powerUpBad}
 use Rattle.state.specs.Queue.{noPlace, newPlace, waiting, wordsOf, moved, freed, firstUnread, claimed, returned}
 use Rattle.state.specs.Rings.{written, ringAfter}
 use Rattle.state.specs.Sending.{stored, done}
@@ -22,7 +22,7 @@ use Rattle.rules.specs.Sound.{earSound, allSome}
 use Rattle.sender.specs.Sender.{choose, bitSent, wordSent, queueSent, senderAfter, advanced, finished, isStarve, isStart, sentBy, tickSender, placeSent}
 use Rattle.reader.specs.Reader.{wordRead, errorRead, endRead, wordTaken, atEnd, ended, takenBy, tickReader, began}
 use Rattle.host.specs.Forward.{asksStore, guard, mineAfter, enqueues, clears, forwarded, forwardWord, forwardBegun, faulted}
-use Rattle.host.specs.Frames.{opened, isQuiet, isTransmitClear, isReceiveClear, isRefused, withWrite, registerWord, dataWord, wrongCrc, forwardClosed, crcDue, plannedIn, planned, releasedIn, registersClosed}
+use Rattle.host.specs.Frames.{opened, isQuiet, isTransmitClear, isReceiveClear, isRefused, withWrite, registerWord, dataWord, wrongCrc, forwardClosed, crcDue, plannedIn, planned, cutDeed, cut, releasedIn, registersClosed}
 use Rattle.host.specs.Plan.{clearedAway, received, settled, concluded, performed}
 use Rattle.events.specs.Events.{powered, isForward, blockedIn, same, markAfter, watched, starvedFlags, flagsSent, phaseAfter, controlTicked, tickEnds, tickHears, ticked, clocked, reacted, tickNote, elapsed, modeAt, flagsAt, controlAt}
 use Rattle.bridge.specs.Step.{step}
@@ -33,8 +33,9 @@ use Rattle.order.specs.Premises.{isPower, typed, fair, premises}
 use Rattle.bridge.specs.Runs.{Config, RightStores, outOf, next, endOf, lineBit, soutOf, powerOn, allSent}
 use Rattle.command.specs.Layouts.{ours}
 use Rattle.events.specs.declared.Event.{Event}
-use Rattle.events.specs.declared.Event.the-variants.{Word, Release, Tick, Clock as ClockReading}
+use Rattle.events.specs.declared.Event.the-variants.{Power, Word, Release, Tick, Clock as ClockReading}
 use Rattle.order.proofs.Order.{in-order, all-sent}
+use Rattle.order.proofs.Closed.{demand-3-script}
 use Rattle.order.proofs.Tests.{are-premises, is-all-sent}
 
 -- From power-up with good OTP, both stores full of zeros.
@@ -132,3 +133,40 @@ mended =
 pub mended-shows : readLine (soutOf ours from mended) .finished ≡ (0xFFFF ∷ []) ∷ []
 unfolding meets sends-all mended
 mended-shows = shows-all mended refl refl ∙ refl
+
+-- A frame cut short is within the premises: FWD_WR_CRC of two words, released after one, which is taken back.
+pub cut-off : List Event
+cut-off = opening ++ (Word 0x2001 ∷ Word 0x1111 ∷ Release ∷ (frame (0x2000 ∷ 0xAAF0 ∷ []) ++ ticks 36))
+
+pub cut-off-shows : readLine (soutOf ours from cut-off) .finished ≡ (0xAAF0 ∷ []) ∷ []
+unfolding meets sends-all cut-off cut cutDeed
+cut-off-shows = shows-all cut-off refl refl ∙ refl
+
+-- Scripts that begin with a power event. With good OTP:
+pub good-script : readLine (soutOf ours from (Power true ∷ together)) .finished ≡ (0xAAF0 ∷ []) ∷ (0x1234 ∷ 0x5678 ∷ []) ∷ []
+unfolding meets sends-all together
+good-script =
+    demand-3-script true (replicate 512 0) (replicate 256 0) zeros together (are-premises ours from together refl) .all-sent
+    (is-all-sent _ refl) ∙ refl
+
+-- With bad OTP the bridge stays in INIT: what is accepted waits.
+pub kept-back : List Event
+kept-back = frame (0x2000 ∷ 0xAAF0 ∷ []) ++ ticks 40
+
+unfoldable meets-bad : List Event → Bool
+unfolding meets badControl powerUpBad
+meets-bad es = premises ours (powerOn false (replicate 512 0) (replicate 256 0)) es
+
+kept-back-accepted : acceptedIn ours from (Power false ∷ kept-back) ≡ (0xAAF0 ∷ []) ∷ []
+unfolding meets-bad kept-back
+kept-back-accepted = refl
+
+kept-back-meets : meets-bad kept-back ≡ true
+unfolding meets-bad kept-back
+kept-back-meets = refl
+
+pub bad-script : Sent (readLine (soutOf ours from (Power false ∷ kept-back))) ((0xAAF0 ∷ []) ∷ [])
+unfolding meets-bad
+bad-script =
+    subst (Sent (readLine (soutOf ours from (Power false ∷ kept-back)))) kept-back-accepted
+    (demand-3-script false (replicate 512 0) (replicate 256 0) zeros kept-back (are-premises ours _ kept-back kept-back-meets) .in-order)

@@ -13,5 +13,8 @@ mod Steps
 pub mod Order
 pub mod Asked
 pub mod Closed
+mod Behind
+mod HostWords
+pub mod Framed
 pub mod Tests
 pub mod Examples
