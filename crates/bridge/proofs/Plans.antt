@@ -1,5 +1,5 @@
--- The host's plans, by what they tell the outside: no plan is a refusal or gives a note of the line, and one that clears nothing raises no
--- blocking flag (01 Notes, 8 and 9: the faults of a forward are transmit clears). Assumes nothing.
+-- The host's plans, by what they tell the outside: no plan is a refusal or a starved tick's, and without note 8 or 9 none raises a blocking
+-- flag (01 Notes: both are transmit clears). Assumes nothing.
 use mathlib.Core.Path.{_≡_, refl}
 use mathlib.Core.Bool.{Bool, true, false, not, _&&_, _||_}
 use mathlib.Core.List.{List, [], _∷_}
@@ -30,7 +30,7 @@ use Rattle.host.specs.declared.Effects.{Effects}
 use Rattle.host.specs.declared.Granted.{Granted}
 use Rattle.host.specs.declared.Plan.{Plan}
 use Rattle.host.specs.declared.Wish.{Wish}
-use Rattle.bridge.specs.Runs.{refuses}
+use Rattle.bridge.specs.Runs.{refuses, faults}
 
 -- a note that is neither a refusal's nor that of a starved tick
 unfoldable pub ofHost : Note → Bool
@@ -38,7 +38,8 @@ ofHost n = not (refuses n || eqb (noteNumber n) 13)
 
 pub record Tame (b : Bridge) (c : Control) (d : Deed) (n : Note) : Type 0 where
   pub note : ofHost n ≡ true
-  pub calm : blocking (b .control .flags) ≡ false → clears d ≡ false → blocking (c .flags) ≡ false
+  pub loud : faults n ≡ true → clears d ≡ true
+  pub calm : blocking (b .control .flags) ≡ false → faults n ≡ false → blocking (c .flags) ≡ false
 
 abbrev pub TameBy : Bridge → Plan → Type 0
 TameBy b p = Tame b (p .control) (p .deed) (p .note)
@@ -67,93 +68,94 @@ writes-calm e busy address (v ∷ vs) h = writes-calm _ busy (address + 1) vs (w
 
 module _ (b : Bridge) where
   -- what leaves the control alone, with a note of the host's
-  still : (d : Deed) (n : Note) → ofHost n ≡ true → Tame b (b .control) d n
-  still d n o = record { note = o; calm = λ h k. h }
+  still : (d : Deed) (n : Note) → ofHost n ≡ true → faults n ≡ false → Tame b (b .control) d n
+  still d n o q = record { note = o; loud = λ h. cc; calm = λ h k. h }
 
   -- notes 5, 8 and 9
   tame-guard : (blocked : Bool) (count used : ℕ) (w : Wish)
       → Tame b (faulted (b .control) (guard blocked count used w .note)) (guard blocked count used w .deed) (guard blocked count used w .note)
-  unfolding guard faulted ofHost refuses clears
+  unfolding guard faulted ofHost refuses faults clears
   tame-guard blocked count used w =
-      pick-keeps (λ (g : Granted). Tame b (faulted (b .control) (g .note)) (g .deed) (g .note)) _ _ _ (λ t. still _ _ refl)
+      pick-keeps (λ (g : Granted). Tame b (faulted (b .control) (g .note)) (g .deed) (g .note)) _ _ _ (λ t. still _ _ refl refl)
       (λ t. pick-keeps (λ (g : Granted). Tame b (faulted (b .control) (g .note)) (g .deed) (g .note)) _ _ _
-      (λ u. record { note = refl; calm = λ h k. cc })
+      (λ u. record { note = refl; loud = λ h. refl; calm = λ h k. cc })
       (λ u. pick-keeps (λ (g : Granted). Tame b (faulted (b .control) (g .note)) (g .deed) (g .note)) _ _ _
       (λ v. pick-keeps (λ (g : Granted). Tame b (faulted (b .control) (g .note)) (g .deed) (g .note)) _ _ _
-      (λ x. record { note = refl; calm = λ h k. cc }) (λ x. still _ _ refl)) (λ v. still _ _ refl)))
+      (λ x. record { note = refl; loud = λ h. refl; calm = λ h k. cc }) (λ x. still _ _ refl refl)) (λ v. still _ _ refl refl)))
 
   tame-opened : (command : Command) (sum : ℕ) → TameBy b (opened b command sum)
-  unfolding opened forwardBegun forwarded ofHost refuses
-  tame-opened Filler sum = still _ _ refl
-  tame-opened Malformed sum = still _ _ refl
+  unfolding opened forwardBegun forwarded ofHost refuses faults
+  tame-opened Filler sum = still _ _ refl refl
+  tame-opened Malformed sum = still _ _ refl refl
   tame-opened (Forward crc words ends reads) sum = tame-guard _ _ _ _
-  tame-opened (DataRead crc words) sum = still _ _ refl
-  tame-opened (RegisterWrite crc address count) sum = still _ _ refl
-  tame-opened (RegisterRead crc address count) sum = still _ _ refl
-  tame-opened SoftReset sum = still _ _ refl
+  tame-opened (DataRead crc words) sum = still _ _ refl refl
+  tame-opened (RegisterWrite crc address count) sum = still _ _ refl refl
+  tame-opened (RegisterRead crc address count) sum = still _ _ refl refl
+  tame-opened SoftReset sum = still _ _ refl refl
 
   -- note 10
   tame-writes : (c : Control) (clears-tx refused : Bool) → (blocking (b .control .flags) ≡ false → blocking (c .flags) ≡ false)
       → Tame b c (pick clears-tx ClearAll Leave) (pick refused LineBusy Done)
-  unfolding ofHost refuses
+  unfolding ofHost refuses faults
   tame-writes c clears-tx refused f =
-      record { note = pick-keeps (λ (n : Note). ofHost n ≡ true) _ _ _ (λ t. refl) (λ t. refl); calm = λ h k. f h }
+      let q : faults (pick refused LineBusy Done) ≡ false = pick-keeps (λ (n : Note). faults n ≡ false) _ _ _ (λ t. refl) (λ t. refl) in
+      record { note = pick-keeps (λ (n : Note). ofHost n ≡ true) _ _ _ (λ t. refl) (λ t. refl); loud = λ h. cc; calm = λ h k. f h }
 
   tame-data : (command : Command) (got sum mine : ℕ) (released blocked : Bool) (w : ℕ)
       → TameBy b (dataWord b command got sum mine released blocked w)
-  unfolding dataWord forwardWord forwarded registerWord heldWord withWrite ofHost refuses
-  tame-data Filler got sum mine released blocked w = still _ _ refl
-  tame-data Malformed got sum mine released blocked w = still _ _ refl
+  unfolding dataWord forwardWord forwarded registerWord heldWord withWrite ofHost refuses faults
+  tame-data Filler got sum mine released blocked w = still _ _ refl refl
+  tame-data Malformed got sum mine released blocked w = still _ _ refl refl
   tame-data (Forward crc words ends reads) got sum mine released blocked w = tame-guard _ _ _ _
-  tame-data (DataRead crc words) got sum mine released blocked w = still _ _ refl
+  tame-data (DataRead crc words) got sum mine released blocked w = still _ _ refl refl
   tame-data (RegisterWrite crc address count) got sum mine released blocked w =
-      pick-keeps (TameBy b) _ _ _ (λ t. still _ _ refl) (λ t. tame-writes _ _ _ (write-calm (b .control) _ (address + got) w))
-  tame-data (RegisterRead crc address count) got sum mine released blocked w = still _ _ refl
-  tame-data SoftReset got sum mine released blocked w = still _ _ refl
+      pick-keeps (TameBy b) _ _ _ (λ t. still _ _ refl refl) (λ t. tame-writes _ _ _ (write-calm (b .control) _ (address + got) w))
+  tame-data (RegisterRead crc address count) got sum mine released blocked w = still _ _ refl refl
+  tame-data SoftReset got sum mine released blocked w = still _ _ refl refl
 
   -- notes 6 and 7
   tame-wrong : (crc : Bool) (mine : ℕ) → TameBy b (wrongCrc b crc mine)
-  unfolding wrongCrc ofHost refuses blocking raised
+  unfolding wrongCrc ofHost refuses faults blocking raised
   tame-wrong crc mine =
-      pick-keeps (TameBy b) _ _ _ (λ t. record { note = refl; calm = λ h k. h }) (λ t. record { note = refl; calm = λ h k. h })
+      pick-keeps (TameBy b) _ _ _ (λ t. record { note = refl; loud = λ h. cc; calm = λ h k. h }) (λ t. record { note = refl; loud = λ h. cc; calm = λ h k. h })
 
   tame-read : (l : Layout) (crc right : Bool) (reply : Reply) → TameBy b (readClosed l b crc right reply)
-  unfolding readClosed ofHost refuses blocking raised
+  unfolding readClosed ofHost refuses faults blocking raised
   tame-read l crc right reply =
-      pick-keeps (TameBy b) _ _ _ (λ t. still _ _ refl)
-      (λ t. pick-keeps (TameBy b) _ _ _ (λ u. record { note = refl; calm = λ h k. h }) (λ u. record { note = refl; calm = λ h k. h }))
+      pick-keeps (TameBy b) _ _ _ (λ t. still _ _ refl refl)
+      (λ t. pick-keeps (TameBy b) _ _ _ (λ u. record { note = refl; loud = λ h. cc; calm = λ h k. h }) (λ u. record { note = refl; loud = λ h. cc; calm = λ h k. h }))
 
   tame-crc : (l : Layout) (command : Command) (mine : ℕ) (blocked right : Bool) → TameBy b (crcDue l b command mine blocked right)
-  unfolding crcDue forwardClosed registersClosed resetClosed ofHost refuses blocking raised
-  tame-crc l Filler mine blocked right = still _ _ refl
-  tame-crc l Malformed mine blocked right = still _ _ refl
+  unfolding crcDue forwardClosed registersClosed resetClosed ofHost refuses faults blocking raised
+  tame-crc l Filler mine blocked right = still _ _ refl refl
+  tame-crc l Malformed mine blocked right = still _ _ refl refl
   tame-crc l (Forward crc words ends reads) mine blocked right =
       pick-keeps (TameBy b) right _ _ (λ t. tame-guard _ _ _ _) (λ t. tame-wrong crc mine)
   tame-crc l (DataRead crc words) mine blocked right = tame-read l crc right _
   tame-crc l (RegisterWrite crc address count) mine blocked right =
       pick-keeps (TameBy b) right _ _
-      (λ t. pick-keeps (TameBy b) crc _ _ (λ u. tame-writes _ _ _ (writes-calm (noEffects (b .control)) _ address _)) (λ u. still _ _ refl))
+      (λ t. pick-keeps (TameBy b) crc _ _ (λ u. tame-writes _ _ _ (writes-calm (noEffects (b .control)) _ address _)) (λ u. still _ _ refl refl))
       (λ t. tame-wrong crc mine)
   tame-crc l (RegisterRead crc address count) mine blocked right = tame-read l crc right _
   tame-crc l SoftReset mine blocked right =
       pick-keeps (TameBy b) right _ _
-      (λ t. pick-keeps (TameBy b) _ _ _ (λ u. still _ _ refl) (λ u. record { note = refl; calm = λ h k. h })) (λ t. tame-wrong true mine)
+      (λ t. pick-keeps (TameBy b) _ _ _ (λ u. still _ _ refl refl) (λ u. record { note = refl; loud = λ h. cc; calm = λ h k. h })) (λ t. tame-wrong true mine)
 
   -- note 15
   tame-answered : (l : Layout) (reply : Reply) (sum x : ℕ) → TameBy b (answered l b reply sum x)
-  unfolding answered answerWith dataAnswered registerAnswered ofHost refuses blocking raised
-  tame-answered l (Status w) sum x = still _ _ refl
-  tame-answered l (Data left) sum x = pick-keeps (TameBy b) _ _ _ (λ t. record { note = refl; calm = λ h k. h }) (λ t. still _ _ refl)
-  tame-answered l (Registers address left) sum x = still _ _ refl
-  tame-answered l Check sum x = still _ _ refl
+  unfolding answered answerWith dataAnswered registerAnswered ofHost refuses faults blocking raised
+  tame-answered l (Status w) sum x = still _ _ refl refl
+  tame-answered l (Data left) sum x = pick-keeps (TameBy b) _ _ _ (λ t. record { note = refl; loud = λ h. cc; calm = λ h k. h }) (λ t. still _ _ refl refl)
+  tame-answered l (Registers address left) sum x = still _ _ refl refl
+  tame-answered l Check sum x = still _ _ refl refl
 
   tame-planned : (l : Layout) (ph : Phase) (w x : ℕ) → TameBy b (plannedIn l b ph w x)
-  unfolding plannedIn ofHost refuses
+  unfolding plannedIn ofHost refuses faults
   tame-planned l Idle w x = tame-opened (l .decode w) _
   tame-planned l (Collecting command got sum mine released blocked) w x =
       pick-keeps (TameBy b) _ _ _ (λ t. tame-data command got _ mine released blocked w) (λ t. tame-crc l command mine blocked _)
   tame-planned l (Answering reply sum) w x = tame-answered l reply sum x
-  tame-planned l Discarding w x = still _ _ refl
+  tame-planned l Discarding w x = still _ _ refl refl
 
   pub tame-word : (l : Layout) (w x : ℕ) → TameBy b (planned l b w x)
   unfolding planned
@@ -161,8 +163,8 @@ module _ (b : Bridge) where
 
   -- note 12
   pub tame-release : (ph : Phase) → TameBy b (releasedIn b ph)
-  unfolding releasedIn cut ofHost refuses blocking raised
-  tame-release Idle = still _ _ refl
-  tame-release (Collecting command got sum mine released blocked) = record { note = refl; calm = λ h k. h }
-  tame-release (Answering reply sum) = still _ _ refl
-  tame-release Discarding = still _ _ refl
+  unfolding releasedIn cut ofHost refuses faults blocking raised
+  tame-release Idle = still _ _ refl refl
+  tame-release (Collecting command got sum mine released blocked) = record { note = refl; loud = λ h. cc; calm = λ h k. h }
+  tame-release (Answering reply sum) = still _ _ refl refl
+  tame-release Discarding = still _ _ refl refl

@@ -33,6 +33,10 @@ pub record RightStores (tx rx : List ℕ) : Type 0 where
 unfoldable pub refuses : Note → Bool
 refuses n = eqb (noteNumber n) 1 || eqb (noteNumber n) 2
 
+-- notes 8, 9 and 13: those of TXFFOVF, QUEUE_OVF and TXFFUVF. 01 Notes
+unfoldable pub faults : Note → Bool
+faults n = eqb (noteNumber n) 8 || eqb (noteNumber n) 9 || eqb (noteNumber n) 13
+
 -- what an event gives there
 unfoldable pub outOf : Layout → Config → Event → Out
 outOf l c e = step l (c .bridge) (c .tx) (c .rx) e

@@ -180,12 +180,12 @@ unfoldable pub sum : List ℕ → ℕ
 sum [] = 0
 sum (k ∷ K) = k + sum K
 
-sum-append : (a b : List ℕ) → sum (a ++ b) ≡ sum a + sum b
+pub sum-append : (a b : List ℕ) → sum (a ++ b) ≡ sum a + sum b
 unfolding sum
 sum-append [] b = sym (zero-add (sum b))
 sum-append (x ∷ a) b = rw (sum-append a b) (omega arith)
 
-length-concat : (D : List (List ℕ)) → length (concat D) ≡ sum (lengths D)
+pub length-concat : (D : List (List ℕ)) → length (concat D) ≡ sum (lengths D)
 unfolding sum concat lengths
 length-concat [] = refl
 length-concat (x ∷ D) = rw (length-append, length-concat D)
@@ -201,3 +201,15 @@ pub still-there : (q : Pos) (l e : ℕ) (H W S K : List ℕ) (D : List (List ℕ
 still-there q l e H W S K D ws a s k =
     let n : length S ≡ sum K + length ws = rw (s, k, length-append, length-concat) in
     omega (arith, in-reach q l e H W S K a)
+
+-- With all sent, TX holds the words that no place counts.
+pub all-there : (q : Pos) (H S K : List ℕ) → Account q 0 0 H [] S K → length S ≡ sum K + length H
+unfolding Account
+all-there (out finished) H S K a = rw (a .1, a .2, length-append, append-nil, length-concat)
+all-there (within finished words b) H S K a = absurd (omega (arith, a .0))
+
+-- ENDs that are owed change no account between commands.
+pub account-owes : (q : Pos) (ends : ℕ) (H W S K : List ℕ) → Account q 0 0 H W S K → Account q 0 ends H W S K
+unfolding Account
+account-owes (out finished) ends H W S K a = a
+account-owes (within finished words b) ends H W S K a = absurd (omega (arith, a .0))

@@ -1,35 +1,45 @@
--- Demand 3's own premises ask more than the theorems need: where no blocking flag comes up no tick is starved, and that no frame is cut short
--- is not needed. Assumes nothing.
+-- Demand 3's own premises ask more than the theorems need: where no blocking flag comes up and nothing is cleared there is no fault, and that
+-- no frame is cut short is not needed. Assumes nothing.
 use mathlib.Core.Path.{_≡_, refl}
-use mathlib.Core.Bool.{false}
+use mathlib.Core.Bool.{Bool, true, false}
 use mathlib.Core.List.{List, [], _∷_}
-use mathlib.Core.Logic.{_≢_}
 use Prim.Native.Nat.{ℕ}
-use native.Mathlib.Omega.{arith}
 use Rattle.command.specs.Layouts.{Layout}
 use Rattle.registers.specs.Registers.{blocking}
-use Rattle.state.specs.Notes.{noteNumber}
-use Rattle.state.specs.declared.Bridge.{Bridge}
+use Rattle.state.specs.Rings.{oldest}
+use Rattle.state.specs.declared.Deed.{Deed}
+use Rattle.state.specs.declared.Note.{Note}
+use Rattle.host.specs.Forward.{clears}
 use Rattle.kept.proofs.Fits.{LayoutFit}
 use Rattle.events.specs.Events.{clocked, reacted}
 use Rattle.events.specs.Turn.{turned, turn}
 use Rattle.events.specs.declared.Event.{Event}
 use Rattle.events.specs.declared.Event.the-variants.{Power, Word, Release, Tick, Clock as ClockReading}
-use Rattle.bridge.specs.Runs.{Config, next}
+use Rattle.bridge.specs.Runs.{Config, faults, next}
 use Rattle.bridge.proofs.Plans.{tame-word, tame-release}
 use Rattle.bridge.proofs.Reached.{Obeys, obeyed-turn, step-obeys}
-use Rattle.order.specs.Premises.{underflow, Fair, Premises, FairAsAsked, AskedPremises}
-use Rattle.order.proofs.Faults.{fault-note, host-note}
+use Rattle.order.specs.Accepted.{planOf}
+use Rattle.order.specs.Premises.{clearing, Fair, Premises, FairAsAsked, AskedPremises}
+use Rattle.order.proofs.Faults.{fault-note}
+use Rattle.order.proofs.Truth.{never}
 
--- An event that leaves no blocking flag up is not note 13.
-fed-event : (l : Layout) (b : Bridge) (e : Event) (w x : ℕ) → blocking (reacted l b e w x .bridge .control .flags) ≡ false
-    → noteNumber (reacted l b e w x .note) ≢ underflow
-unfolding reacted clocked
-fed-event l b (Power good) w x f h = absurd (omega arith)
-fed-event l b (Word word) w x f h = host-note _ (tame-word b l word x .note) h
-fed-event l b Release w x f h = host-note _ (tame-release b (b .frame .phase) .note) h
-fed-event l b (Tick sin) w x f h = fault-note b sin w f h
-fed-event l b (ClockReading reading) w x f h = absurd (omega arith)
+-- What leaves no blocking flag up and clears nothing is no fault.
+loud-not : (n : Note) (d : Deed) → (faults n ≡ true → clears d ≡ true) → clears d ≡ false → faults n ≡ false
+loud-not n d f k = go (faults n) refl
+  where
+    go : (t : Bool) → faults n ≡ t → t ≡ false
+    go true e = never (clears d) (f e) k
+    go false e = refl
+
+event-fault : (l : Layout) (c : Config) (e : Event) (w : ℕ) → clearing l c e ≡ false
+    → blocking (reacted l (c .bridge) e w (oldest (c .rx) (c .bridge .receiving .rx)) .bridge .control .flags) ≡ false
+    → faults (reacted l (c .bridge) e w (oldest (c .rx) (c .bridge .receiving .rx)) .note) ≡ false
+unfolding reacted clocked planOf
+event-fault l c (Power good) w k f = unfold faults in refl
+event-fault l c (Word word) w k f = loud-not _ _ (tame-word (c .bridge) l word _ .loud) k
+event-fault l c Release w k f = loud-not _ _ (tame-release (c .bridge) (c .bridge .frame .phase) .loud) k
+event-fault l c (Tick sin) w k f = fault-note (c .bridge) sin w f
+event-fault l c (ClockReading reading) w k f = unfold faults in refl
 
 module _ (l : Layout) (fits : LayoutFit l) where
   asked-fair : (c : Config) (e : Event) → Obeys c → FairAsAsked l c e → Fair l c e
@@ -38,8 +48,9 @@ module _ (l : Layout) (fits : LayoutFit l) where
       record {
         typed = a .typed;
         no-power = a .no-power;
-        no-clear = a .no-clear;
-        no-underflow = rw (obeyed-turn l fits c e o) (fed-event l (c .bridge) e _ _ (rw (obeyed-turn l fits c e o) at (a .no-fault)));
+        no-fault =
+            rw (obeyed-turn l fits c e o) (event-fault l c e _ (a .no-clear) (rw (obeyed-turn l fits c e o) at (a .no-fault)));
+        no-loss = λ h. never (clearing l c e) h (a .no-clear);
       }
 
   pub asked-premises : (c : Config) (es : List Event) → Obeys c → AskedPremises l c es → Premises l c es

@@ -17,7 +17,7 @@ use Rattle.line.proofs.Pieces.{Pos, out, within, at, upTo, after, Fits, part, s
 use Rattle.line.proofs.Trip.{tabulate, pieceBits, piece-bits, read-append, read-cons, read-tabulate, read-piece, read-start, round-trip}
 use Rattle.state.specs.declared.Sender.{Sender}
 use Rattle.order.specs.Exactly.{Spot, away, inside, lineAt, Proper, commandsAt, wordsAt, onward, firstBits, Follows, Exactly, Whole}
-use Rattle.order.proofs.Account.{counted, assign, concat, lengths, assign-done, words-snoc, words-take, Agrees, agrees-sent, agrees-before, Account, account-agrees, next-word, next-end, next-start, account-push, account-queue, account-back}
+use Rattle.order.proofs.Account.{counted, assign, concat, lengths, assign-done, words-snoc, words-take, Agrees, agrees-sent, agrees-before, Account, account-agrees, next-word, next-end, next-start, account-push, account-queue, account-back, sum, all-there, account-owes}
 
 -- The last check bit of a command so far; with no words, its start bit.
 unfoldable pub lastCheck : Bool → List ℕ → Bool
@@ -283,6 +283,28 @@ exact-queue t H W k bits S K x =
       account = account-queue _ _ _ H W S K k (x .account);
       low = x .low;
     }
+
+-- A transmit clear with nothing to send: the sender owes an END.
+pub exact-owing : (t : Sender) (ends : ℕ) (H W : List ℕ) (bits : List Bool) (S K : List ℕ) → Exact t H W bits S K
+    → pieceLength (t .piece) ≤ t .gone → t .left ≡ 0 → t .ends ≡ 0 → Exact (sends Pause 0 0 ends) H W bits S K
+exact-owing t ends H W bits S K x b l e =
+    record {
+      spot = onward (t .piece) (x .spot);
+      proper = proper-onward (t .piece) (x .spot) (x .fits) (x .proper);
+      fits = tt;
+      short = unfold pieceLength in omega arith;
+      is = unfold tabulate in (exact-between t H W bits S K x b ∙ sym (append-nil (lineAt (onward (t .piece) (x .spot)))));
+      account = pause (onward (t .piece) (x .spot)) (account-owes _ ends H W S K (rw (l, e) at (x .account)));
+      low = x .low;
+    }
+  where
+    pause : (q : Spot) → Account (toPos q) 0 ends H W S K → Account (toPos (onward Pause q)) 0 ends H W S K
+    pause q a = unfold onward in a
+
+-- With all sent, TX holds the words that no place counts.
+pub exact-all : (t : Sender) (H : List ℕ) (bits : List Bool) (S K : List ℕ) → Exact t H [] bits S K → t .left ≡ 0 → t .ends ≡ 0
+    → length S ≡ sum K + length H
+exact-all t H bits S K x l e = all-there _ H S K (rw (l, e) at (x .account))
 
 -- What the line reads as.
 pub exact-sent : (t : Sender) (H W : List ℕ) (bits : List Bool) (S K : List ℕ) → Exact t H W bits S K → Sent (readLine bits) (assign K S)

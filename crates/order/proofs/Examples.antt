@@ -7,7 +7,7 @@ use lib.ListN.{replicate, length-replicate}
 use Rattle.base.specs.Bits.{val, odd, bit, highFirst}
 use Rattle.base.specs.Pick.{pick}
 use Rattle.crc16.specs.Crc.{shift, crcBit, crcBits, crcWord, crcFrom, crcOf}
-use Rattle.command.specs.Layout.{write, registerWrite, rows, byNumber, decodeOurs, writeEnds}
+use Rattle.command.specs.Layout.{write, registerWrite, softReset, rows, byNumber, decodeOurs, writeEnds}
 use Rattle.registers.specs.Raising.{raised}
 use Rattle.registers.specs.Registers.{blocking, isNormal, powerUpControl, table, resetRegs, cleared, powerUpFlags}
 use Rattle.registers.specs.Writing.{writeStatus, writeMasked, writeOf, writeTxfflvl}
@@ -17,12 +17,12 @@ use Rattle.state.specs.Frame.{dataWords, mineOf, owedBy, toCome, collectSound, 
 use Rattle.state.specs.Power.{powerUp, badControl, powerUpBad}
 use Rattle.state.specs.Queue.{noPlace, newPlace, waiting, wordsOf, moved, freed, firstUnread, claimed, returned}
 use Rattle.state.specs.Rings.{written, ringAfter}
-use Rattle.state.specs.Sending.{stored, done}
+use Rattle.state.specs.Sending.{owing, stored, done}
 use Rattle.rules.specs.Sound.{earSound, allSome}
 use Rattle.sender.specs.Sender.{choose, bitSent, wordSent, queueSent, senderAfter, advanced, finished, isStarve, isStart, sentBy, tickSender, placeSent}
 use Rattle.reader.specs.Reader.{wordRead, errorRead, endRead, wordTaken, atEnd, ended, takenBy, tickReader, began}
 use Rattle.host.specs.Forward.{asksStore, guard, mineAfter, enqueues, clears, forwarded, forwardWord, forwardBegun, faulted}
-use Rattle.host.specs.Frames.{opened, isQuiet, isTransmitClear, isReceiveClear, isRefused, withWrite, registerWord, dataWord, wrongCrc, forwardClosed, crcDue, plannedIn, planned, cutDeed, cut, releasedIn, registersClosed}
+use Rattle.host.specs.Frames.{opened, isQuiet, isTransmitClear, isReceiveClear, isRefused, withWrite, registerWord, dataWord, wrongCrc, forwardClosed, crcDue, plannedIn, planned, resetClosed, cutDeed, cut, releasedIn, registersClosed}
 use Rattle.host.specs.Plan.{clearedAway, received, settled, concluded, performed}
 use Rattle.events.specs.Events.{powered, isForward, blockedIn, same, markAfter, watched, starvedFlags, flagsSent, phaseAfter, controlTicked, tickEnds, tickHears, ticked, clocked, reacted, tickNote, elapsed, modeAt, flagsAt, controlAt}
 use Rattle.bridge.specs.Step.{step}
@@ -30,7 +30,7 @@ use Rattle.events.specs.Turn.{turned, turn}
 use Rattle.kept.proofs.Fits.{ours-fits}
 use Rattle.order.specs.Accepted.{planOf, came, accepts, collects, joined, settle, logged, logBy, listed, acceptedIn}
 use Rattle.order.specs.Premises.{isPower, typed, fair, premises}
-use Rattle.bridge.specs.Runs.{Config, RightStores, outOf, next, endOf, lineBit, soutOf, powerOn, allSent}
+use Rattle.bridge.specs.Runs.{Config, RightStores, faults, outOf, next, endOf, lineBit, soutOf, powerOn, allSent}
 use Rattle.command.specs.Layouts.{ours}
 use Rattle.events.specs.declared.Event.{Event}
 use Rattle.events.specs.declared.Event.the-variants.{Power, Word, Release, Tick, Clock as ClockReading}
@@ -59,7 +59,7 @@ opening = frame (0xB007 ∷ 0x8000 ∷ [])
 
 -- The run meets the premises; at its end all is sent.
 unfoldable meets : List Event → Bool
-unfolding ticks frame opening val odd bit highFirst pick shift crcBit crcBits crcWord crcFrom crcOf write registerWrite rows byNumber decodeOurs raised blocking isNormal powerUpControl writeStatus writeMasked writeOf checkBit pieceLength wordBit pieceBit runOn shiftIn atCheck inGroup inLost hear dataWords mineOf owedBy toCome collectSound replySound phaseSound powerUp noPlace newPlace waiting wordsOf moved freed firstUnread claimed returned written ringAfter stored done earSound allSome choose bitSent wordSent queueSent senderAfter advanced finished isStarve isStart sentBy tickSender wordRead errorRead endRead wordTaken atEnd ended takenBy tickReader asksStore guard mineAfter enqueues clears forwarded forwardWord forwardBegun opened isQuiet isTransmitClear isReceiveClear isRefused withWrite registerWord dataWord wrongCrc forwardClosed crcDue plannedIn planned releasedIn clearedAway received settled concluded performed powered isForward blockedIn same markAfter watched starvedFlags flagsSent phaseAfter controlTicked tickEnds tickHears ticked clocked reacted turned turn step planOf came accepts collects joined settle logged logBy listed acceptedIn isPower typed fair premises outOf next endOf lineBit soutOf powerOn allSent table resetRegs cleared powerUpFlags writeTxfflvl registersClosed faulted tickNote elapsed modeAt flagsAt controlAt placeSent writeEnds began
+unfolding ticks frame opening val odd bit highFirst pick shift crcBit crcBits crcWord crcFrom crcOf write registerWrite rows byNumber decodeOurs raised blocking isNormal powerUpControl writeStatus writeMasked writeOf checkBit pieceLength wordBit pieceBit runOn shiftIn atCheck inGroup inLost hear dataWords mineOf owedBy toCome collectSound replySound phaseSound powerUp noPlace newPlace waiting wordsOf moved freed firstUnread claimed returned written ringAfter stored done earSound allSome choose bitSent wordSent queueSent senderAfter advanced finished isStarve isStart sentBy tickSender wordRead errorRead endRead wordTaken atEnd ended takenBy tickReader asksStore guard mineAfter enqueues clears forwarded forwardWord forwardBegun opened isQuiet isTransmitClear isReceiveClear isRefused withWrite registerWord dataWord wrongCrc forwardClosed crcDue plannedIn planned releasedIn clearedAway received settled concluded performed powered isForward blockedIn same markAfter watched starvedFlags flagsSent phaseAfter controlTicked tickEnds tickHears ticked clocked reacted turned turn step planOf came accepts collects joined settle logged logBy listed acceptedIn isPower typed fair premises faults outOf next endOf lineBit soutOf powerOn allSent table resetRegs cleared powerUpFlags writeTxfflvl registersClosed faulted tickNote elapsed modeAt flagsAt controlAt placeSent writeEnds began
 meets es = premises ours from es
 
 unfoldable sends-all : List Event → Bool
@@ -141,6 +141,17 @@ cut-off = opening ++ (Word 0x2001 ∷ Word 0x1111 ∷ Release ∷ (frame (0x2000
 pub cut-off-shows : readLine (soutOf ours from cut-off) .finished ≡ (0xAAF0 ∷ []) ∷ []
 unfolding meets sends-all cut-off cut cutDeed
 cut-off-shows = shows-all cut-off refl refl ∙ refl
+
+-- A soft reset at the start, and a transmit clear once all is sent, whose END comes before the next command: neither loses anything.
+pub afresh : List Event
+afresh =
+    frame (0xE000 ∷ [])
+    ++ (opening
+    ++ (frame (0x2000 ∷ 0xAAF0 ∷ []) ++ (ticks 36 ++ (frame (0xB003 ∷ 0x81FF ∷ []) ++ (frame (0x2000 ∷ 0x1234 ∷ []) ++ ticks 54)))))
+
+pub afresh-shows : readLine (soutOf ours from afresh) .finished ≡ (0xAAF0 ∷ []) ∷ (0x1234 ∷ []) ∷ []
+unfolding meets sends-all afresh resetClosed owing softReset
+afresh-shows = shows-all afresh refl refl ∙ refl
 
 -- Scripts that begin with a power event. With good OTP:
 pub good-script : readLine (soutOf ours from (Power true ∷ together)) .finished ≡ (0xAAF0 ∷ []) ∷ (0x1234 ∷ 0x5678 ∷ []) ∷ []

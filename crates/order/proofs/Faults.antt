@@ -1,14 +1,8 @@
--- Blocking flags: a tick raises TXFFUVF alone, and only where it is starved, which is note 13; what it hears, a clock reading and a plan that
--- clears nothing raise none (01 Notes; "Blocking flags are TXFFOVF, TXFFUVF and QUEUE_OVF"). Assumes nothing.
+-- Blocking flags: a tick raises TXFFUVF alone, and only where it is starved, which is note 13; what it hears and a clock reading raise none (01 Notes; "Blocking flags are TXFFOVF, TXFFUVF and QUEUE_OVF"). Assumes nothing.
 use mathlib.Core.Path.{_≡_, refl, sym, _∙_}
-use mathlib.Core.Bool.{Bool, true, false, not, _||_}
-use mathlib.Core.Logic.{_≢_}
+use mathlib.Core.Bool.{Bool, true, false, _||_}
 use Prim.Native.Nat.{ℕ}
-use native.Mathlib.Omega.{arith}
-use lib.Dec.{eqb}
-use borrow.Author.Tests.{eqb-false, not-true}
 use Rattle.base.specs.Pick.{pick, pick-keeps}
-use Rattle.command.specs.Layouts.{Layout}
 use Rattle.line.specs.declared.Ear.{Ear}
 use Rattle.line.specs.declared.Found.{Found}
 use Rattle.line.specs.declared.Found.the-variants.{Nothing, Start, Word, End, CheckError, Over}
@@ -16,9 +10,7 @@ use Rattle.registers.specs.Registers.{blocking}
 use Rattle.registers.specs.Raising.{raised}
 use Rattle.registers.specs.declared.Flag.the-variants.{LineCrc, TxUvf}
 use Rattle.registers.specs.declared.Flags.{Flags}
-use Rattle.state.specs.Notes.{noteNumber}
 use Rattle.state.specs.declared.Bridge.{Bridge}
-use Rattle.state.specs.declared.Note.{Note}
 use Rattle.state.specs.declared.Queue.{Queue}
 use Rattle.state.specs.declared.Receiving.{Receiving}
 use Rattle.sender.specs.Sender.{mayStart, tickSender}
@@ -26,8 +18,7 @@ use Rattle.reader.specs.Reader.{wordTaken, ended, takenBy, tickReader}
 use Rattle.reader.specs.declared.Taken.{Taken}
 use Rattle.host.specs.Plan.{settled}
 use Rattle.events.specs.Events.{starvedFlags, flagsSent, controlTicked, tickNote, tickEnds, tickHears, ticked, flagsAt, controlAt, clocked}
-use Rattle.bridge.specs.Runs.{refuses}
-use Rattle.bridge.proofs.Plans.{ofHost}
+use Rattle.bridge.specs.Runs.{faults}
 use Rattle.order.proofs.Truth.{or-l, or-r}
 
 abbrev Same : Flags → Flags → Type 0
@@ -56,16 +47,16 @@ module _ (f : Flags) where
     same-taken Over = compared _
 
 -- Note 13 is given where the tick is starved.
-note-fed : (starved full : Bool) → noteNumber (tickNote starved full) ≢ 13 → starved ≡ false
-unfolding tickNote pick
-note-fed true full k = absurd (k refl)
+note-fed : (starved full : Bool) → faults (tickNote starved full) ≡ false → starved ≡ false
+unfolding tickNote pick faults
+note-fed true full k = k
 note-fed false full k = refl
 
-fed-noted : (starved full : Bool) → starved ≡ false → noteNumber (tickNote starved full) ≢ 13
-unfolding tickNote pick
-fed-noted true full h e = let y : _≡_ {A = ℕ} 0 1 = cc in absurd (omega arith)
-fed-noted false true h e = absurd (omega arith)
-fed-noted false false h e = absurd (omega arith)
+fed-noted : (starved full : Bool) → starved ≡ false → faults (tickNote starved full) ≡ false
+unfolding tickNote pick faults
+fed-noted true full h = h
+fed-noted false true h = refl
+fed-noted false false h = refl
 
 module _ (b : Bridge) (sin : Bool) (w : ℕ) where
   abbrev starves : Bool
@@ -75,11 +66,11 @@ module _ (b : Bridge) (sin : Bool) (w : ℕ) where
   unfolding ticked tickHears tickEnds controlTicked settled tickReader flagsSent
   flags-ticked = same-taken _ (b .receiving) _ _ _ ∙ compared (starvedFlags (b .control .flags) starves) _
 
-  pub not-starved : noteNumber (ticked b sin w .note) ≢ 13 → starves ≡ false
+  pub not-starved : faults (ticked b sin w .note) ≡ false → starves ≡ false
   unfolding ticked tickHears tickEnds
   not-starved n = note-fed starves _ n
 
-  fed-note : starves ≡ false → noteNumber (ticked b sin w .note) ≢ 13
+  fed-note : starves ≡ false → faults (ticked b sin w .note) ≡ false
   unfolding ticked tickHears tickEnds
   fed-note z = fed-noted starves _ z
 
@@ -88,7 +79,7 @@ module _ (b : Bridge) (sin : Bool) (w : ℕ) where
   tick-calm h z = flags-ticked ∙ rw z h
 
   -- A tick that leaves no blocking flag up had the word that it needed.
-  pub fault-note : blocking (ticked b sin w .bridge .control .flags) ≡ false → noteNumber (ticked b sin w .note) ≢ 13
+  pub fault-note : blocking (ticked b sin w .bridge .control .flags) ≡ false → faults (ticked b sin w .note) ≡ false
   unfolding starvedFlags pick blocking raised
   fault-note h = fed-note (fed (b .control .flags) starves (sym flags-ticked ∙ h))
     where
@@ -100,8 +91,3 @@ module _ (b : Bridge) (sin : Bool) (w : ℕ) where
 pub clock-calm : (b : Bridge) (reading : ℕ) → blocking (b .control .flags) ≡ false → blocking (clocked b reading .bridge .control .flags) ≡ false
 unfolding clocked controlAt settled flagsAt blocking raised
 clock-calm b reading h = pick-keeps (λ (f : Flags). blocking f ≡ false) _ _ _ (λ t. h) (λ t. h)
-
--- No plan of the host gives note 13.
-pub host-note : (n : Note) → ofHost n ≡ true → noteNumber n ≢ 13
-unfolding ofHost
-host-note n h = eqb-false (noteNumber n) 13 (or-r (refuses n) _ (not-true _ h))

@@ -20,21 +20,22 @@ use Rattle.state.specs.declared.Place.{Place}
 use Rattle.state.specs.declared.Sending.{Sending}
 use Rattle.state.specs.declared.Store.{Store}
 use Rattle.state.specs.declared.Store.the-variants.{Keep, Put}
-use Rattle.host.specs.Forward.{asksStore, granted, wish, guard, clears}
+use Rattle.host.specs.Forward.{asksStore, granted, wish, guard}
 use Rattle.host.specs.declared.Granted.{Granted}
+use Rattle.bridge.specs.Runs.{faults}
 use Rattle.order.specs.Accepted.{Log, came, accepts, collects, joined, settle}
 use Rattle.order.proofs.Truth.{never, or-none, and-false}
 use Rattle.order.proofs.Account.{counted, concat, lengths, concat-snoc, lengths-snoc}
 use Rattle.order.proofs.Sending.{lessBy, moreBy}
 use Rattle.order.proofs.Frames.{Shut, Pending, Released, Open, InFrame, Kept, Goes}
 
--- Where nothing is cleared the guard granted the wish: there was room in TX, and a place.
+-- Without note 8 or 9 the guard granted the wish: there was room in TX, and a place.
 module _ (P : Granted → Type 0) (count used : ℕ) (st : Store) (release : Bool) (p : Place) where
   pub guard-grants : (blocked : Bool) → blocked ≡ false
       → ((asksStore st ≡ true → count < 512) → release ≡ true → used < 8 → P (granted st (Enqueue p) Done))
       → ((asksStore st ≡ true → count < 512) → release ≡ false → P (granted st Leave Done))
-      → clears (guard blocked count used (wish st release p) .deed) ≡ false → P (guard blocked count used (wish st release p))
-  unfolding guard clears
+      → faults (guard blocked count used (wish st release p) .note) ≡ false → P (guard blocked count used (wish st release p))
+  unfolding guard faults
   guard-grants blocked b enqueue leave =
       pick-keeps Q _ _ _ (λ t k. never blocked (and-l blocked (asksStore st || release) t) b)
       (λ t. pick-keeps Q _ _ _ (λ u k. never true refl k)
@@ -42,7 +43,7 @@ module _ (P : Granted → Type 0) (count used : ℕ) (st : Store) (release : Boo
       (λ r. pick-keeps Q _ _ _ (λ v k. never true refl k) (λ v k. enqueue (room u) r (leb-false 8 used v))) (λ r k. leave (room u) r)))
     where
       Q : Granted → Type 0
-      Q r = clears (r .deed) ≡ false → P r
+      Q r = faults (r .note) ≡ false → P r
 
       room : (asksStore st && leb 512 count) ≡ false → asksStore st ≡ true → count < 512
       room u a = leb-false 512 count (and-false (asksStore st) (leb 512 count) u a)

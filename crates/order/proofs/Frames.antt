@@ -11,15 +11,17 @@ use lib.ListN.{length}
 use lib.Seq.{take-all}
 use Rattle.command.specs.declared.Command.{Command}
 use Rattle.command.specs.declared.Command.the-variants.{Filler, Malformed, Forward, DataRead, RegisterWrite, RegisterRead, SoftReset}
+use Rattle.state.specs.Rings.{ringAfter}
 use Rattle.state.specs.Sending.{stored}
 use Rattle.state.specs.declared.Deed.{Deed}
-use Rattle.state.specs.declared.Deed.the-variants.{Leave}
+use Rattle.state.specs.declared.Deed.the-variants.{Leave, ClearAll, ResetAll}
 use Rattle.state.specs.declared.Phase.{Phase}
 use Rattle.state.specs.declared.Phase.the-variants.{Idle, Collecting, Answering, Discarding}
 use Rattle.state.specs.declared.Sending.{Sending}
 use Rattle.state.specs.declared.Store.{Store}
 use Rattle.state.specs.declared.Store.the-variants.{Keep}
 use Rattle.host.specs.declared.Plan.{Plan}
+use Rattle.bridge.specs.Runs.{AllSent}
 use Rattle.order.specs.Accepted.{Log, came, accepts, collects, joined, settle, listed}
 use Rattle.order.proofs.Truth.{or-none}
 use Rattle.order.proofs.Account.{counted, assign, concat, lengths, assign-done}
@@ -162,6 +164,16 @@ module _ (s : Sending) (g : Log) (S K : List ℕ) where
   unfolding came accepts lessBy moreBy
   goes-quiet ph status r e h =
       record { storable = tt; feasible = tt; kept = r _ S K (shut-settled (collects ph) g S K h); ends = e }
+
+  -- A transmit clear and a soft reset once all is sent.
+  module _ (ph : Phase) (status : Bool) (r : Rests ph) (e : status ≡ true → ph ≡ Idle) (h : Shut g S K) (a : AllSent s) (z : s .tx .count ≡ 0) where
+    pub goes-cleared : Goes s g S K ph Keep ClearAll status
+    unfolding came accepts lessBy moreBy stored ringAfter
+    goes-cleared = record { storable = tt; feasible = (a, z); kept = r _ S K (shut-settled (collects ph) g S K h); ends = e }
+
+    pub goes-reset : Goes s g S K ph Keep ResetAll status
+    unfolding came accepts lessBy moreBy stored ringAfter
+    goes-reset = record { storable = tt; feasible = (a, z); kept = r _ S K (shut-settled (collects ph) g S K h); ends = e }
 
   -- An event that leaves the frame alone.
   pub kept-same : (ph : Phase) → Kept ph g S K → Kept ph (settle (collects ph) (g .closed) (g .words) (g .accepted || false)) S K

@@ -27,7 +27,7 @@ use Rattle.order.specs.Exactly.{Exactly, Whole}
 use Rattle.order.proofs.Ring.{view}
 use Rattle.order.proofs.Account.{countsOf, concat, lengths}
 use Rattle.order.proofs.Exact.{exact-power, exact-sent, exact-exactly, exact-whole, whole-read}
-use Rattle.order.proofs.Sending.{Holds, inTx}
+use Rattle.order.proofs.Sending.{Holds, inTx, none-counted, at-rest}
 use Rattle.order.proofs.Frames.{Kept, listed-kept}
 use Rattle.order.proofs.Steps.{Between, between-turn}
 
@@ -36,7 +36,7 @@ module _ (l : Layout) (fits : LayoutFit l) where
       → Between (next l c e) (bits ++ lineBit e (outOf l c e .answer .sout)) (logged g (planOf l c e))
   unfolding next
   between-step c bits g e i o f =
-      between-turn l c bits g i e _ (obeyed-turn l fits c e o) (f .typed) (f .no-power) (f .no-clear) (f .no-underflow)
+      between-turn l c bits g i e _ (obeyed-turn l fits c e o) (f .typed) (f .no-power) (f .no-fault) (f .no-loss)
 
   between-run : (c : Config) (bits : List Bool) (g : Log) (es : List Event) → Between c bits g → Obeys c → Premises l c es
       → Between (endOf l c es) (bits ++ soutOf l c es) (logBy l g c es)
@@ -75,18 +75,12 @@ in-order-between c bits g i = rw (listed-kept (c .bridge .frame .phase) g _ _ (i
 exactly-between : (c : Config) (bits : List Bool) (g : Log) → Between c bits g → Exactly bits (c .bridge .sending .sender) (listed g)
 exactly-between c bits g i = rw (listed-kept (c .bridge .frame .phase) g _ _ (i .kept)) (exact-exactly _ _ _ bits _ _ (i .holds .exact))
 
-none-counted : (s : Sending) → s .queue .begun ≡ s .queue .used → countsOf (waiting (s .queue)) ≡ []
-unfolding waiting countsOf
-none-counted s e = let z : s .queue .used - s .queue .begun ≡ 0 = omega arith in rw z
-
 whole-between : (c : Config) (bits : List Bool) (g : Log) → Between c bits g → AllSent (c .bridge .sending) → Whole bits (listed g)
 whole-between c bits g i d =
     let s = c .bridge .sending in
-    let h : (leb (pieceLength (s .sender .piece)) (s .sender .gone) && eqb (s .sender .left) 0) ≡ true = and-l _ (eqb (s .sender .ends) 0) (d .idle-sender) in
+    let r = at-rest (s .sender) (d .idle-sender) in
     rw (listed-kept (c .bridge .frame .phase) g _ _ (i .kept))
-    (exact-whole (s .sender) (inTx s (c .tx)) bits _ _ (rw (none-counted s (d .none-waits)) at (i .holds .exact))
-    (leb-true _ _ (and-l _ (eqb (s .sender .left) 0) h)) (eqb-true _ _ (and-r (leb (pieceLength (s .sender .piece)) (s .sender .gone)) _ h))
-    (eqb-true _ _ (and-r (leb (pieceLength (s .sender .piece)) (s .sender .gone) && eqb (s .sender .left) 0) _ (d .idle-sender))))
+    (exact-whole (s .sender) (inTx s (c .tx)) bits _ _ (rw (none-counted s d) at (i .holds .exact)) (r .0) (r .1) (r .2))
 
 -- What begins a run under the premises is one: the theorems below speak of every moment of a run.
 pub premises-before : (l : Layout) (c : Config) (es rest : List Event) → Premises l c (es ++ rest) → Premises l c es

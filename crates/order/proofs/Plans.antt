@@ -1,11 +1,12 @@
--- Every plan of a host word or of a release of chip select that clears nothing keeps the frames' account. Assumes nothing.
+-- Every plan of a host word or of a release of chip select that meets no fault and clears only once all is sent keeps the frames' account.
+-- Assumes nothing.
 use mathlib.Core.Path.{_≡_, refl}
 use mathlib.Core.Bool.{Bool, true, false, not, _&&_}
-use mathlib.Core.List.{List, _++_}
-use Prim.Native.Nat.{ℕ, _+_, _-_, _≤_, _<_}
+use mathlib.Core.List.{List, [], _∷_, _++_}
+use Prim.Native.Nat.{ℕ, zero, suc, _+_, _-_, _≤_, _<_}
 use native.Mathlib.Omega.{arith}
 use lib.Dec.{ltb, leb, eqb}
-use lib.ListN.{length}
+use lib.ListN.{length, length-append}
 use borrow.Author.Tests.{ltb-true, ltb-false, eqb-true, eqb-false, not-true}
 use Rattle.base.specs.Pick.{pick, pick-keeps, and-l, and-r}
 use Rattle.command.specs.Layouts.{Layout}
@@ -14,29 +15,41 @@ use Rattle.command.specs.declared.Command.the-variants.{Filler, Malformed, Forw
 use Rattle.registers.specs.Registers.{blocking}
 use Rattle.state.specs.Frame.{dataWords}
 use Rattle.state.specs.declared.Bridge.{Bridge}
+use Rattle.state.specs.declared.Deed.{Deed}
 use Rattle.state.specs.declared.Deed.the-variants.{Leave, ClearAll}
+use Rattle.state.specs.declared.Note.{Note}
 use Rattle.state.specs.declared.Phase.{Phase}
 use Rattle.state.specs.declared.Phase.the-variants.{Idle, Collecting, Answering, Discarding}
 use Rattle.state.specs.declared.Reply.{Reply}
 use Rattle.state.specs.declared.Reply.the-variants.{Status, Data, Registers, Check}
+use Rattle.state.specs.declared.Sending.{Sending}
 use Rattle.state.specs.declared.Store.the-variants.{Keep, Put}
 use Rattle.host.specs.Forward.{asksStore, clears, enqueues, mineAfter, faulted, forwarded, releases, forwardWord, forwardBegun}
 use Rattle.host.specs.Frames.{opened, heldWord, registerWord, dataWord, closed, wrongCrc, forwardClosed, registersClosed, readClosed, resetClosed, crcDue, answerWith, dataAnswered, registerAnswered, answered, plannedIn, planned, cutDeed, cut, releasedIn}
 use Rattle.host.specs.declared.Granted.{Granted}
 use Rattle.host.specs.declared.Plan.{Plan}
 use Rattle.host.specs.declared.Receive.the-variants.{LeaveRx}
+use Rattle.bridge.specs.Runs.{faults, AllSent}
 use Rattle.order.specs.Accepted.{Log}
 use Rattle.order.proofs.Truth.{never, or-r}
-use Rattle.order.proofs.Account.{concat, lengths}
-use Rattle.order.proofs.Frames.{Shut, Pending, Released, Open, InFrame, Kept, Goes, GoesBy, Rests, rests-idle, rests-answering, rests-discarding, goes-quiet}
+use Rattle.order.proofs.Account.{counted, concat, lengths, sum, sum-append, length-concat}
+use Rattle.order.proofs.Frames.{Shut, Pending, Released, Open, InFrame, Kept, Goes, GoesBy, Rests, rests-idle, rests-answering, rests-discarding, goes-quiet, goes-cleared, goes-reset}
 use Rattle.order.proofs.Forwards.{guard-grants, over-released, over-pending, over-queued, over-back, over-nothing, begun-queued, begun-pending, word-queued, word-pending, word-released}
 
--- A plan that clears nothing keeps the account.
-abbrev Good : Bridge → Log → List ℕ → List ℕ → Plan → Type 0
-Good b g S K p = clears (p .deed) ≡ false → GoesBy (b .sending) g S K p
+-- A plan with no fault, and that clears only once all is sent.
+pub record Allowed (s : Sending) (d : Deed) (n : Note) : Type 0 where
+  pub no-fault : faults n ≡ false
+  pub no-loss : clears d ≡ true → AllSent s
 
-module _ (b : Bridge) (g : Log) (S K : List ℕ) where
-  -- Plans that leave the sending side alone.
+abbrev Good : Bridge → Log → List ℕ → List ℕ → Plan → Type 0
+Good b g S K p = Allowed (b .sending) (p .deed) (p .note) → GoesBy (b .sending) g S K p
+
+-- Once all is sent, TX holds the words that no place counts.
+abbrev Spent : Bridge → List ℕ → List ℕ → Type 0
+Spent b S K = AllSent (b .sending) → length S ≡ sum K + b .sending .tx .count
+
+module _ (b : Bridge) (g : Log) (S K : List ℕ) (spent : Spent b S K) where
+  -- Plans that leave the sending side alone, or clear it when it has nothing.
   module _ (h : Shut g S K) where
     quiet : (ph : Phase) → Rests ph → Goes (b .sending) g S K ph Keep Leave false
     quiet ph r = goes-quiet (b .sending) g S K ph false r (λ e. never false e refl) h
@@ -44,11 +57,16 @@ module _ (b : Bridge) (g : Log) (S K : List ℕ) where
     quiet-over : Goes (b .sending) g S K Idle Keep Leave true
     quiet-over = goes-quiet (b .sending) g S K Idle true rests-idle (λ e. refl) h
 
-    -- Register writes, where they do not clear.
-    effects : (t : Bool) (ph : Phase) (status : Bool) → Rests ph → (status ≡ true → ph ≡ Idle) → clears (pick t ClearAll Leave) ≡ false
-        → Goes (b .sending) g S K ph Keep (pick t ClearAll Leave) status
+    none-left : AllSent (b .sending) → b .sending .tx .count ≡ 0
+    none-left a =
+        let e : length (concat (g .closed)) ≡ sum (lengths (g .closed)) + b .sending .tx .count = rw (h .stored-are, h .counts-are) at (spent a) in
+        omega (arith, e, length-concat (g .closed))
+
+    -- Register writes.
+    effects : (t : Bool) (ph : Phase) (status : Bool) → Rests ph → (status ≡ true → ph ≡ Idle)
+        → (clears (pick t ClearAll Leave) ≡ true → AllSent (b .sending)) → Goes (b .sending) g S K ph Keep (pick t ClearAll Leave) status
     unfolding pick clears
-    effects true ph status r e k = never true refl k
+    effects true ph status r e k = goes-cleared (b .sending) g S K ph status r e h (k refl) (none-left (k refl))
     effects false ph status r e k = goes-quiet (b .sending) g S K ph status r e h
 
     wrong-crc : (crc : Bool) (mine : ℕ) → mine ≡ 0 → Good b g S K (wrongCrc b crc mine)
@@ -65,11 +83,13 @@ module _ (b : Bridge) (g : Log) (S K : List ℕ) where
     write-closed : (crc : Bool) (address count : ℕ) → Good b g S K (registersClosed b crc address count)
     unfolding registersClosed
     write-closed crc address count =
-        pick-keeps (Good b g S K) _ _ _ (λ t. effects _ Idle true rests-idle (λ e. refl)) (λ t k. quiet-over)
+        pick-keeps (Good b g S K) _ _ _ (λ t k. effects _ Idle true rests-idle (λ e. refl) (k .no-loss)) (λ t k. quiet-over)
 
     reset-closed : Good b g S K (resetClosed b)
     unfolding resetClosed clears
-    reset-closed = pick-keeps (Good b g S K) _ _ _ (λ t k. never true refl k) (λ t k. quiet-over)
+    reset-closed =
+        pick-keeps (Good b g S K) _ _ _
+        (λ t k. goes-reset (b .sending) g S K Idle true rests-idle (λ e. refl) h (k .no-loss refl) (none-left (k .no-loss refl))) (λ t k. quiet-over)
 
     answers : (l : Layout) (reply : Reply) (sum x : ℕ) → Good b g S K (answered l b reply sum x)
     unfolding answered answerWith registerAnswered dataAnswered
@@ -83,10 +103,10 @@ module _ (b : Bridge) (g : Log) (S K : List ℕ) where
     forward-begun : (crc : Bool) (k ends : ℕ) (reads : Bool) (sum : ℕ) (blocked : Bool) → blocked ≡ false
         → Good b g S K (forwardBegun b (Forward crc k ends reads) crc k ends reads sum blocked)
     unfolding forwardBegun forwarded mineAfter enqueues clears asksStore pick
-    forward-begun crc k ends reads sum blocked c =
+    forward-begun crc k ends reads sum blocked c a =
         guard-grants (λ (r : Granted). GoesBy (b .sending) g S K (forwarded b (Forward crc k ends reads) 0 sum 0 false blocked r)) _ _ Keep _ _ blocked c
         (λ room t u. begun-queued (b .sending) g S K crc k ends reads sum blocked c h u (not-true crc (and-l (not crc) _ (and-l _ (ltb 0 ends) t))))
-        (λ room t. begun-pending (b .sending) g S K crc k ends reads sum blocked c h)
+        (λ room t. begun-pending (b .sending) g S K crc k ends reads sum blocked c h) (a .no-fault)
 
     begins : (command : Command) (sum : ℕ) → blocking (b .control .flags) ≡ false → Good b g S K (opened b command sum)
     unfolding opened Kept InFrame
@@ -103,7 +123,7 @@ module _ (b : Bridge) (g : Log) (S K : List ℕ) where
     pending-word : (blocked : Bool) → blocked ≡ false → Pending crc words got mine g S K
         → Good b g S K (forwardWord b (Forward crc words ends reads) crc words ends reads (got + 1) sum mine false blocked w)
     unfolding forwardWord forwarded mineAfter enqueues clears asksStore pick
-    pending-word blocked c h =
+    pending-word blocked c h a =
         guard-grants
         (λ (r : Granted). GoesBy (b .sending) g S K (forwarded b (Forward crc words ends reads) (got + 1) sum mine false blocked r)) _ _
         (Put w) _ _ blocked c
@@ -111,6 +131,7 @@ module _ (b : Bridge) (g : Log) (S K : List ℕ) where
         word-queued (b .sending) g S K crc words ends reads sum blocked c got w small (room refl) due mine h u
         (not-true crc (and-l (not crc) true (and-l (not crc && true) _ t))))
         (λ room t. word-pending (b .sending) g S K crc words ends reads sum blocked c got w small (room refl) due mine h (later crc t))
+        (a .no-fault)
       where
         later : (crc : Bool) → releases crc words (got + 1) false (b .control .regs .txfflvl) (b .sending .tx .count + 1) ≡ false
             → crc ≡ false → got + 1 ≡ words → words ≡ 0
@@ -121,12 +142,12 @@ module _ (b : Bridge) (g : Log) (S K : List ℕ) where
     released-word : (blocked : Bool) → blocked ≡ false → Released crc words got g S K
         → Good b g S K (forwardWord b (Forward crc words ends reads) crc words ends reads (got + 1) sum mine true blocked w)
     unfolding forwardWord forwarded mineAfter enqueues clears asksStore pick
-    released-word blocked c h =
+    released-word blocked c h a =
         guard-grants
         (λ (r : Granted). GoesBy (b .sending) g S K (forwarded b (Forward crc words ends reads) (got + 1) sum mine true blocked r)) _ _
         (Put w) _ _ blocked c
         (λ room t u. never false (and-r (not crc) false (and-l (not crc && false) _ t)) refl)
-        (λ room t. word-released (b .sending) g S K crc words ends reads sum blocked c got w small (room refl) due mine h)
+        (λ room t. word-released (b .sending) g S K crc words ends reads sum blocked c got w small (room refl) due mine h) (a .no-fault)
 
     forward-word : (released blocked : Bool) → Open crc words got mine released g S K → blocked ≡ false
         → Good b g S K (forwardWord b (Forward crc words ends reads) crc words ends reads (got + 1) sum mine released blocked w)
@@ -152,18 +173,18 @@ module _ (b : Bridge) (g : Log) (S K : List ℕ) where
     pending-right : (blocked : Bool) → blocked ≡ false → Pending crc words got mine g S K
         → Good b g S K (forwardClosed b crc words ends reads blocked)
     unfolding forwardClosed
-    pending-right blocked c h =
+    pending-right blocked c h a =
         guard-grants (λ (r : Granted). GoesBy (b .sending) g S K (closed b (faulted (b .control) (r .note)) (r .deed) LeaveRx (r .note))) _ _
         Keep _ _ blocked c (λ room t u. over-queued (b .sending) g S K crc words got mine ends reads h all u)
-        (λ room t. over-pending (b .sending) g S K crc words got mine h (nothing crc t h))
+        (λ room t. over-pending (b .sending) g S K crc words got mine h (nothing crc t h)) (a .no-fault)
 
     released-right : (blocked : Bool) → blocked ≡ false → Released crc words got g S K
         → Good b g S K (forwardClosed b crc words ends reads blocked)
     unfolding forwardClosed
-    released-right blocked c h =
+    released-right blocked c h a =
         guard-grants (λ (r : Granted). GoesBy (b .sending) g S K (closed b (faulted (b .control) (r .note)) (r .deed) LeaveRx (r .note))) _ _
         Keep _ _ blocked c (λ room t u. never crc (and-l crc _ t) (h .by-words))
-        (λ room t. over-released (b .sending) g S K crc words got h all)
+        (λ room t. over-released (b .sending) g S K crc words got h all) (a .no-fault)
 
     pending-wrong : Pending crc words got mine g S K → Good b g S K (wrongCrc b crc mine)
     unfolding wrongCrc
@@ -198,7 +219,7 @@ module _ (b : Bridge) (g : Log) (S K : List ℕ) where
     data-word (DataRead crc words) w small due h k = quiet (h .0) Idle rests-idle
     data-word (RegisterWrite crc address count) w small due h k =
         pick-keeps (Good b g S K) _ _ _ (λ t j. quiet (h .0) _ (λ i X Y p. (p, h .1)))
-        (λ t. effects (h .0) _ _ false (λ i X Y p. (p, h .1)) (λ e. never false e refl)) k
+        (λ t j. effects (h .0) _ _ false (λ i X Y p. (p, h .1)) (λ e. never false e refl) (j .no-loss)) k
     data-word (RegisterRead crc address count) w small due h k = quiet (h .0) Idle rests-idle
     data-word SoftReset w small due h k = quiet (h .0) Idle rests-idle
 
@@ -228,7 +249,7 @@ module _ (b : Bridge) (g : Log) (S K : List ℕ) where
 
   -- A host word.
   pub goes-word : (l : Layout) (w x : ℕ) → w < 65536 → Reach → blocking (b .control .flags) ≡ false → Kept (b .frame .phase) g S K
-      → clears (planned l b w x .deed) ≡ false → GoesBy (b .sending) g S K (planned l b w x)
+      → Allowed (b .sending) (planned l b w x .deed) (planned l b w x .note) → GoesBy (b .sending) g S K (planned l b w x)
   unfolding planned
   goes-word l w x small reach f h k = planned-in l (b .frame .phase) w x small reach f h k
 
@@ -236,27 +257,43 @@ module _ (b : Bridge) (g : Log) (S K : List ℕ) where
   status-off : {ph : Phase} {st : _} {d : _} → Goes (b .sending) g S K ph st d true → Goes (b .sending) g S K ph st d false
   status-off x = record { storable = x .storable; feasible = x .feasible; kept = x .kept; ends = λ e. never false e refl }
 
-  cut-shut : (command : Command) (got mine : ℕ) (released : Bool) → Shut g S K → mine ≡ 0 → clears (cutDeed command got mine released) ≡ false
-      → Goes (b .sending) g S K Idle Keep (cutDeed command got mine released) false
+  -- what a cut may do
+  abbrev Loses : Deed → Type 0
+  Loses d = (clears d ≡ true → AllSent (b .sending)) → Goes (b .sending) g S K Idle Keep d false
+
+  cut-shut : (command : Command) (got mine : ℕ) (released : Bool) → Shut g S K → mine ≡ 0 → Loses (cutDeed command got mine released)
   unfolding cutDeed clears
   cut-shut command got mine released h z =
-      pick-keeps (λ d. clears d ≡ false → Goes (b .sending) g S K Idle Keep d false) _ _ _
-      (λ t. pick-keeps (λ d. clears d ≡ false → Goes (b .sending) g S K Idle Keep d false) _ _ _ (λ u k. never true refl k) (λ u k. quiet h Idle rests-idle))
+      pick-keeps Loses _ _ _
+      (λ t. pick-keeps Loses _ _ _
+      (λ u k. goes-cleared (b .sending) g S K Idle false rests-idle (λ e. never false e refl) h (k refl) (none-left h (k refl)))
+      (λ u k. quiet h Idle rests-idle))
       (λ t k. status-off (over-nothing (b .sending) g S K mine h z))
 
+  -- while data are missing not all is sent
+  missing : (crc : Bool) (words got : ℕ) → Released crc words got g S K → AllSent (b .sending) → words ≤ got
+  unfolding counted sum
+  missing crc zero got h a = omega arith
+  missing crc (suc k) got h a =
+      let e : length (concat (g .closed) ++ g .words) ≡ sum (lengths (g .closed) ++ (suc k ∷ [])) + b .sending .tx .count
+      = rw (h .stored-are, h .counts-are) at (spent a) in
+      let n : length (concat (g .closed)) + length (g .words) ≡ sum (lengths (g .closed)) + (suc k + 0) + b .sending .tx .count
+      = rw (length-append, sum-append) at e in
+      omega (arith, n, length-concat (g .closed), h .came-are)
+
   cut-open : Reach → (crc : Bool) (words ends : ℕ) (reads : Bool) (got mine : ℕ) (released : Bool) → Open crc words got mine released g S K
-      → clears (cutDeed (Forward crc words ends reads) got mine released) ≡ false
-      → Goes (b .sending) g S K Idle Keep (cutDeed (Forward crc words ends reads) got mine released) false
+      → Loses (cutDeed (Forward crc words ends reads) got mine released)
   unfolding cutDeed clears Open dataWords pick
   cut-open reach crc words ends reads got mine true h =
-      pick-keeps (λ d. clears d ≡ false → Goes (b .sending) g S K Idle Keep d false) (ltb got words) _ _ (λ u k. never true refl k)
+      pick-keeps Loses (ltb got words) _ _
+      (λ u k. let d : got < words = ltb-true _ _ u in absurd (omega (arith, missing crc words got h (k refl))))
       (λ u k. status-off (over-released (b .sending) g S K crc words got h (ltb-false _ _ u)))
   cut-open reach crc words ends reads got mine false h =
       λ k.
       let r : length (g .words) ≤ b .sending .tx .count = reach (g .closed) (g .words) (h .stored-are) (h .counts-are) in
       status-off (over-back (b .sending) g S K crc words got mine h (omega (arith, h .mine-are, h .came-are, r)))
 
-  pub goes-release : (ph : Phase) → Reach → Kept ph g S K → clears (releasedIn b ph .deed) ≡ false → GoesBy (b .sending) g S K (releasedIn b ph)
+  pub goes-release : (ph : Phase) → Reach → Kept ph g S K → (clears (releasedIn b ph .deed) ≡ true → AllSent (b .sending)) → GoesBy (b .sending) g S K (releasedIn b ph)
   unfolding releasedIn cut Kept InFrame
   goes-release Idle r h n = quiet h Idle rests-idle
   goes-release (Collecting Filler got sum mine released blocked) r h n = cut-shut Filler got mine released (h .0) (h .1) n

@@ -7,29 +7,31 @@ use Prim.Native.Nat.{ℕ, suc, _+_, _-_, _≤_, _<_, _%_}
 use native.Mathlib.Nat.{mod-lt}
 use native.Mathlib.Numerals.{add-one}
 use native.Mathlib.Omega.{arith}
-use borrow.Author.Tests.{ltb-true, ltb-false}
+use borrow.Author.Tests.{ltb-true, ltb-false, leb-true, eqb-true}
 use lib.ListN.{length, take, set, length-set}
 use Rattle.base.specs.Pick.{pick-keeps, and-r, and-l}
 use Rattle.line.specs.Format.{pieceLength}
 use Rattle.state.specs.Rings.{oldest, written, ringAfter}
-use Rattle.state.specs.Queue.{placeAt, begunOne, waiting, underWay}
-use Rattle.state.specs.Sending.{stored, done, idle}
+use Rattle.state.specs.Queue.{placeAt, begunOne, waiting, underWay, emptiedQueue}
+use Rattle.state.specs.Sending.{owing, stored, done, idle}
 use Rattle.state.specs.declared.Deed.{Deed}
 use Rattle.state.specs.declared.Deed.the-variants.{Leave, Enqueue, TakeBack, ClearAll, ResetAll}
 use Rattle.state.specs.declared.Queue.{Queue}
 use Rattle.state.specs.declared.Returned.{Returned}
+use Rattle.state.specs.declared.Sender.{Sender}
 use Rattle.state.specs.declared.Sending.{Sending}
 use Rattle.state.specs.declared.Store.{Store}
 use Rattle.state.specs.declared.Store.the-variants.{Keep, Put}
 use Rattle.sender.specs.Sender.{choose, bitSent, queueSent, senderAfter, advanced, finished, isStarve}
 use Rattle.sender.specs.declared.Next.{Next}
 use Rattle.sender.specs.declared.Next.the-variants.{GoOn, LoadWord, Starve, LoadEnd, StartWords, StartEnds, Stay}
+use Rattle.bridge.specs.Runs.{AllSent}
 use Rattle.order.specs.Accepted.{came}
 use Rattle.order.proofs.Truth.{never}
 use Rattle.order.proofs.Ring.{view, length-view, view-back, view-pop, view-push}
 use Rattle.order.proofs.Waiting.{QueueOk, Leaves, waiting-push, queue-push, waiting-begin, queue-begin, leaves-all, leaves-set, leaves-returned}
-use Rattle.order.proofs.Account.{counted, countsOf, counts-snoc}
-use Rattle.order.proofs.Exact.{Exact, exact-on, exact-word, exact-end, exact-begin, exact-ends, exact-stay, exact-push, exact-back, exact-queue}
+use Rattle.order.proofs.Account.{counted, countsOf, counts-snoc, sum}
+use Rattle.order.proofs.Exact.{Exact, exact-on, exact-word, exact-end, exact-begin, exact-ends, exact-stay, exact-push, exact-back, exact-queue, exact-owing, exact-all}
 
 -- The words that TX holds.
 abbrev pub inTx : Sending → List ℕ → List ℕ
@@ -56,7 +58,7 @@ moreBy K (TakeBack n) = K
 moreBy K ClearAll = K
 moreBy K ResetAll = K
 
--- A store and a deed that meet no fault.
+-- A store and a deed that meet no fault and lose nothing.
 abbrev pub Storable : Sending → Store → Type 0
 Storable s Keep = Unit {0}
 Storable s (Put w) = (w < 65536) × (s .tx .count < 512)
@@ -65,8 +67,16 @@ abbrev pub Feasible : Sending → Deed → Type 0
 Feasible s Leave = Unit {0}
 Feasible s (Enqueue p) = s .queue .used < 8
 Feasible s (TakeBack n) = n ≤ s .tx .count
-Feasible s ClearAll = ⊥
-Feasible s ResetAll = ⊥
+Feasible s ClearAll = AllSent s × (s .tx .count ≡ 0)
+Feasible s ResetAll = AllSent s × (s .tx .count ≡ 0)
+
+-- "once all are sent"
+pub none-counted : (s : Sending) → AllSent s → countsOf (waiting (s .queue)) ≡ []
+unfolding waiting countsOf
+none-counted s a = let z : s .queue .used - s .queue .begun ≡ 0 = omega (arith, a .none-waits) in rw z
+
+pub at-rest : (t : Sender) → idle t ≡ true → (pieceLength (t .piece) ≤ t .gone) × (t .left ≡ 0) × (t .ends ≡ 0)
+at-rest t h = (leb-true _ _ (search (and-l, and-r)), eqb-true _ _ (search (and-l, and-r)), eqb-true _ _ (search (and-l, and-r)))
 
 module _ (s : Sending) (cells : List ℕ) (bits : List Bool) (S K : List ℕ) (i : Holds s cells bits S K) where
   pub holds-stored : (st : Store) → Storable s st → Holds (stored s st) (written 512 cells (s .tx) st) bits (came S st) K
@@ -81,6 +91,20 @@ module _ (s : Sending) (cells : List ℕ) (bits : List Bool) (S K : List ℕ) (i
         cells-are = length-set cells _ w ∙ i .cells-are;
         queue = i .queue;
       }
+
+  none-held : AllSent s → s .tx .count ≡ 0 → Exact (s .sender) [] [] bits S K
+  none-held a z =
+      let v : inTx s cells ≡ [] = ap (view 512 cells (s .tx .head)) z ∙ unfold view in refl in rw (v, none-counted s a) at (i .exact)
+
+  none-used : QueueOk (emptiedQueue (s .queue))
+  none-used = record { order = omega arith; most = omega arith; eight = i .queue .eight }
+
+  pub holds-spent : AllSent s → length S ≡ sum K + s .tx .count
+  holds-spent a =
+      let r = at-rest (s .sender) (a .idle-sender) in
+      let e : length S ≡ sum K + length (inTx s cells)
+      = exact-all (s .sender) (inTx s cells) bits S K (rw (none-counted s a) at (i .exact)) (r .1) (r .2) in
+      rw (length-view 512 cells (s .tx .head) (s .tx .count)) at e
 
   pub holds-done : (d : Deed) → Feasible s d → Holds (done s d) cells bits (lessBy S d) (moreBy K d)
   unfolding done lessBy moreBy
@@ -102,8 +126,17 @@ module _ (s : Sending) (cells : List ℕ) (bits : List Bool) (S K : List ℕ) (i
         cells-are = i .cells-are;
         queue = i .queue;
       }
-  holds-done ClearAll h = absurd h
-  holds-done ResetAll h = absurd h
+  holds-done ClearAll h =
+      let r = at-rest (s .sender) (h .0 .idle-sender) in
+      let x : Exact (s .sender) [] [] bits S K = none-held (h .0) (h .1) in
+      record {
+        exact = unfold owing waiting countsOf view in (exact-owing (s .sender) 1 [] [] bits S K x (r .0) (r .1) (r .2));
+        head = i .head;
+        cells-are = i .cells-are;
+        queue = none-used;
+      }
+  holds-done ResetAll h =
+      record { exact = unfold waiting countsOf view in (none-held (h .0) (h .1)); head = i .head; cells-are = i .cells-are; queue = none-used }
 
   -- What changes the places begun changes nothing here.
   pub holds-queue : (q : Queue) → Leaves (s .queue) q → Holds (record { tx = s .tx; queue = q; sender = s .sender }) cells bits S K

@@ -2,7 +2,6 @@
 use mathlib.Core.Path.{_≡_, refl, _∙_}
 use mathlib.Core.Bool.{Bool, true, false, _||_}
 use mathlib.Core.List.{List, [], _∷_, _++_, append-nil}
-use mathlib.Core.Logic.{_≢_}
 use Prim.Native.Nat.{ℕ, _+_, _-_, _≤_}
 use native.Mathlib.Omega.{arith}
 use lib.ListN.{length}
@@ -10,7 +9,6 @@ use Rattle.base.specs.Pick.{pick, pick-keeps}
 use Rattle.command.specs.Layouts.{Layout}
 use Rattle.registers.specs.Registers.{blocking}
 use Rattle.registers.specs.declared.Control.{Control}
-use Rattle.state.specs.Notes.{noteNumber}
 use Rattle.state.specs.Rings.{oldest, written}
 use Rattle.state.specs.declared.Clock.{Clock}
 use Rattle.state.specs.declared.Phase.{Phase}
@@ -19,22 +17,21 @@ use Rattle.sender.specs.Sender.{mayStart, choose, advanced, sentBy, tickSender}
 use Rattle.sender.specs.declared.Sent.{Sent as SentBits}
 use Rattle.reader.specs.Reader.{tickReader}
 use Rattle.host.specs.Plan.{settled, concluded, marked, performed}
-use Rattle.host.specs.Forward.{clears}
 use Rattle.host.specs.declared.Plan.{Plan}
 use Rattle.events.specs.Events.{hosted, flagsSent, phaseAfter, controlTicked, tickEnds, tickHears, ticked, clocked, reacted}
 use Rattle.events.specs.Turn.{Out, turned, turn}
 use Rattle.events.specs.declared.Event.{Event}
 use Rattle.events.specs.declared.Event.the-variants.{Power, Word, Release, Tick, Clock as ClockReading}
-use Rattle.bridge.specs.Runs.{Config, leftBy, lineBit}
+use Rattle.bridge.specs.Runs.{Config, faults, leftBy, lineBit, AllSent}
 use Rattle.bridge.proofs.Plans.{tame-word, tame-release}
 use Rattle.bridge.proofs.Reached.{length-written}
 use Rattle.order.specs.Accepted.{planOf, Log, came, accepts, logged}
-use Rattle.order.specs.Premises.{Typed, isPower, underflow}
+use Rattle.order.specs.Premises.{Typed, isPower, clearing}
 use Rattle.order.proofs.Truth.{never}
 use Rattle.order.proofs.Ring.{length-view}
 use Rattle.order.proofs.Waiting.{leaves-then}
-use Rattle.order.proofs.Account.{concat, lengths, still-there}
-use Rattle.order.proofs.Sending.{Holds, inTx, holds-stored, holds-done, holds-queue, leaves-finished, holds-tick}
+use Rattle.order.proofs.Account.{concat, lengths, sum, still-there}
+use Rattle.order.proofs.Sending.{Holds, inTx, holds-stored, holds-spent, holds-done, holds-queue, leaves-finished, holds-tick}
 use Rattle.order.proofs.Hearing.{leaves-heard}
 use Rattle.order.proofs.Faults.{not-starved, tick-calm, clock-calm}
 use Rattle.order.proofs.Frames.{Kept, GoesBy, kept-same}
@@ -66,6 +63,9 @@ module _ (l : Layout) (c : Config) (bits : List Bool) (g : Log) (i : Between c b
         length-view 512 (c .tx) (c .bridge .sending .tx .head) (c .bridge .sending .tx .count),
       )
 
+  spent : AllSent (c .bridge .sending) → length (i .S) ≡ sum (i .K) + c .bridge .sending .tx .count
+  spent = holds-spent (c .bridge .sending) (c .tx) bits (i .S) (i .K) (i .holds)
+
   -- A plan carried out.
   between-hosted : (clock : Clock) (p : Plan) → GoesBy (c .bridge .sending) g (i .S) (i .K) p
       → blocking (p .control .flags) ≡ false
@@ -83,7 +83,7 @@ module _ (l : Layout) (c : Config) (bits : List Bool) (g : Log) (i : Between c b
         rx-is = i .rx-is;
       }
 
-  between-tick : (sin : Bool) → noteNumber (ticked (c .bridge) sin (oldest (c .tx) (c .bridge .sending .tx)) .note) ≢ 13
+  between-tick : (sin : Bool) → faults (ticked (c .bridge) sin (oldest (c .tx) (c .bridge .sending .tx)) .note) ≡ false
       → Between (leftBy (turned (c .bridge) (c .tx) (c .rx) (ticked (c .bridge) sin (oldest (c .tx) (c .bridge .sending .tx)))))
       (bits ++ (ticked (c .bridge) sin (oldest (c .tx) (c .bridge .sending .tx)) .sout ∷ [])) (logged g (planOf l c (Tick sin)))
   unfolding ticked tickHears tickEnds phaseAfter controlTicked tickSender sentBy turned settled planOf logged came accepts written
@@ -122,20 +122,21 @@ module _ (l : Layout) (c : Config) (bits : List Bool) (g : Log) (i : Between c b
 
   -- Any event, by its rule.
   pub between-turn : (e : Event) (o : Out) → o ≡ turn l (c .bridge) (c .tx) (c .rx) e → Typed e → isPower e ≡ false
-      → clears (planOf l c e .deed) ≡ false → noteNumber (o .answer .note) ≢ underflow
+      → faults (o .answer .note) ≡ false → (clearing l c e ≡ true → AllSent (c .bridge .sending))
       → Between (leftBy o) (bits ++ lineBit e (o .answer .sout)) (logged g (planOf l c e))
   unfolding turn turned reacted lineBit isPower planOf
-  between-turn (Power good) o q t p k n = never true refl p
-  between-turn (Word w) o q t p k n =
+  between-turn (Power good) o q t p n k = never true refl p
+  between-turn (Word w) o q t p n k =
       let x = oldest (c .rx) (c .bridge .receiving .rx) in
+      let f : faults (planOf l c (Word w) .note) ≡ false = rw q at n in
       rw (q, append-nil)
       (between-hosted (marked (c .bridge .clock)) (planOf l c (Word w))
-      (goes-word (c .bridge) g (i .S) (i .K) l w x t reach (i .no-fault) (i .kept) k)
-      (tame-word (c .bridge) l w x .calm (i .no-fault) k))
-  between-turn Release o q t p k n =
+      (goes-word (c .bridge) g (i .S) (i .K) spent l w x t reach (i .no-fault) (i .kept) (record { no-fault = f; no-loss = k }))
+      (tame-word (c .bridge) l w x .calm (i .no-fault) f))
+  between-turn Release o q t p n k =
       rw (q, append-nil)
       (between-hosted (c .bridge .clock) (planOf l c Release)
-      (goes-release (c .bridge) g (i .S) (i .K) (c .bridge .frame .phase) reach (i .kept) k)
-      (tame-release (c .bridge) (c .bridge .frame .phase) .calm (i .no-fault) k))
-  between-turn (Tick sin) o q t p k n = rw q (between-tick sin (rw q at n))
-  between-turn (ClockReading reading) o q t p k n = rw (q, append-nil) (between-clock reading)
+      (goes-release (c .bridge) g (i .S) (i .K) spent (c .bridge .frame .phase) reach (i .kept) k)
+      (tame-release (c .bridge) (c .bridge .frame .phase) .calm (i .no-fault) (rw q at n)))
+  between-turn (Tick sin) o q t p n k = rw q (between-tick sin (rw q at n))
+  between-turn (ClockReading reading) o q t p n k = rw (q, append-nil) (between-clock reading)

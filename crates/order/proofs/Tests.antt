@@ -1,16 +1,16 @@
 -- The premises from their test, so that a closed run meets them by computation: the theorems are not empty. Assumes nothing.
 use mathlib.Core.Path.{_≡_, refl}
-use mathlib.Core.Bool.{Bool, true, false, not, _&&_}
+use mathlib.Core.Bool.{Bool, true, false, not, _&&_, _||_}
 use mathlib.Core.List.{List, [], _∷_}
-use borrow.Author.Tests.{ltb-true, eqb-true, eqb-false, not-true}
+use borrow.Author.Tests.{ltb-true, eqb-true, not-true}
 use Rattle.base.specs.Pick.{and-l, and-r}
 use Rattle.command.specs.Layouts.{Layout}
 use Rattle.state.specs.Sending.{idle}
 use Rattle.state.specs.declared.Sending.{Sending}
 use Rattle.events.specs.declared.Event.{Event}
 use Rattle.events.specs.declared.Event.the-variants.{Power, Word, Release, Tick, Clock as ClockReading}
-use Rattle.bridge.specs.Runs.{Config, next, allSent, AllSent}
-use Rattle.order.specs.Premises.{Typed, isPower, underflow, clearing, Fair, Premises, typed, fair, premises}
+use Rattle.bridge.specs.Runs.{Config, faults, outOf, next, allSent, AllSent}
+use Rattle.order.specs.Premises.{Typed, isPower, clearing, Fair, Premises, typed, fair, premises}
 
 is-typed : (e : Event) → typed e ≡ true → Typed e
 unfolding typed
@@ -27,24 +27,28 @@ four true true false d h = (refl, refl, h, cc)
 four true false c d h = (refl, h, cc, cc)
 four false b c d h = (h, cc, cc, cc)
 
+pub is-all-sent : (s : Sending) → allSent s ≡ true → AllSent s
+unfolding allSent
+is-all-sent s h =
+    record { idle-sender = and-l (idle (s .sender)) _ h; none-waits = eqb-true _ _ (and-r (idle (s .sender)) _ h) }
+
+either : (a c : Bool) → (not a || c) ≡ true → a ≡ true → c ≡ true
+either true c h k = h
+either false c h k = cc
+
 module _ (l : Layout) where
   is-fair : (c : Config) (e : Event) → fair l c e ≡ true → Fair l c e
   unfolding fair
   is-fair c e h =
-      let a = four (typed e) (not (isPower e)) (not (clearing l c e)) _ h in
+      let a = four (typed e) (not (isPower e)) (not (faults (outOf l c e .answer .note))) _ h in
       record {
         typed = is-typed e (a .0);
         no-power = not-true _ (a .1);
-        no-clear = not-true _ (a .2);
-        no-underflow = eqb-false _ underflow (not-true _ (a .3));
+        no-fault = not-true _ (a .2);
+        no-loss = λ k. is-all-sent _ (either (clearing l c e) _ (a .3) k);
       }
 
   pub are-premises : (c : Config) (es : List Event) → premises l c es ≡ true → Premises l c es
   unfolding premises
   are-premises c [] h = tt
   are-premises c (e ∷ es) h = (is-fair c e (and-l (fair l c e) _ h), are-premises (next l c e) es (and-r (fair l c e) _ h))
-
-pub is-all-sent : (s : Sending) → allSent s ≡ true → AllSent s
-unfolding allSent
-is-all-sent s h =
-    record { idle-sender = and-l (idle (s .sender)) _ h; none-waits = eqb-true _ _ (and-r (idle (s .sender)) _ h) }

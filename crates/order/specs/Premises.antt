@@ -1,18 +1,18 @@
 -- What demand 3 asks of a run: "no transmit or queue fault, no transmit clear, soft reset or second power-up, and no frame cut short". It
 -- speaks of flags, notes and deeds, never of hidden progress. Assumes nothing.
 use mathlib.Core.Path.{_≡_}
-use mathlib.Core.Bool.{Bool, true, false, not, _&&_}
+use mathlib.Core.Bool.{Bool, true, false, not, _&&_, _||_}
 use mathlib.Core.List.{List, [], _∷_}
 use mathlib.Core.Logic.{_≢_}
 use Prim.Native.Nat.{ℕ, _<_}
-use lib.Dec.{ltb, eqb}
+use lib.Dec.{ltb}
 use Rattle.command.specs.Layouts.{Layout}
 use Rattle.registers.specs.Registers.{blocking}
 use Rattle.state.specs.Notes.{noteNumber}
 use Rattle.host.specs.Forward.{clears}
 use Rattle.events.specs.declared.Event.{Event}
 use Rattle.events.specs.declared.Event.the-variants.{Power, Word, Release, Tick, Clock as ClockReading}
-use Rattle.bridge.specs.Runs.{Config, outOf, next}
+use Rattle.bridge.specs.Runs.{Config, faults, outOf, next, allSent, AllSent}
 use Rattle.order.specs.Accepted.{planOf}
 
 -- words and readings are of sixteen bits
@@ -30,28 +30,24 @@ isPower Release = false
 isPower (Tick sin) = false
 isPower (ClockReading reading) = false
 
--- note 12: "chip select released before the CRC word"; note 13: "sender needs a word, TX empty". 01 Notes
-abbrev pub cutShort : ℕ
-cutShort = 12
-
-abbrev pub underflow : ℕ
-underflow = 13
-
 -- a transmit clear or a soft reset
 abbrev pub clearing : Layout → Config → Event → Bool
 clearing l c e = clears (planOf l c e .deed)
 
--- What the theorems ask of an event. Notes 8 and 9, the other faults of the transmit side and of the queue, are transmit clears, and so is a
--- cut that loses what was accepted.
+-- What the theorems ask of an event: no transmit or queue fault, and a transmit clear or soft reset only where nothing accepted is unsent.
 pub record Fair (l : Layout) (c : Config) (e : Event) : Type 0 where
   pub typed : Typed e
   pub no-power : isPower e ≡ false
-  pub no-clear : clearing l c e ≡ false
-  pub no-underflow : noteNumber (outOf l c e .answer .note) ≢ underflow
+  pub no-fault : faults (outOf l c e .answer .note) ≡ false
+  pub no-loss : clearing l c e ≡ true → AllSent (c .bridge .sending)
 
 abbrev pub Premises : Layout → Config → List Event → Type 0
 Premises l c [] = Unit {0}
 Premises l c (e ∷ es) = Fair l c e × Premises l (next l c e) es
+
+-- note 12: "chip select released before the CRC word". 01 Notes
+abbrev pub cutShort : ℕ
+cutShort = 12
 
 -- What demand 3 itself asks, in its own order; it is more than `Fair`. `blocking` flags are TXFFOVF, TXFFUVF and QUEUE_OVF.
 pub record FairAsAsked (l : Layout) (c : Config) (e : Event) : Type 0 where
@@ -75,7 +71,7 @@ typed (ClockReading reading) = ltb reading 65536
 
 unfoldable pub fair : Layout → Config → Event → Bool
 fair l c e =
-    typed e && not (isPower e) && not (clearing l c e) && not (eqb (noteNumber (outOf l c e .answer .note)) underflow)
+    typed e && not (isPower e) && not (faults (outOf l c e .answer .note)) && (not (clearing l c e) || allSent (c .bridge .sending))
 
 unfoldable pub premises : Layout → Config → List Event → Bool
 premises l c [] = true
