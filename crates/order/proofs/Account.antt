@@ -79,6 +79,10 @@ pub words-snoc : (S : List ℕ) (w : ℕ) → Words S → w < 65536 → Words (S
 words-snoc [] w k h = (h, tt)
 words-snoc (x ∷ S) w k h = (k .0, words-snoc S w (k .1) h)
 
+words-front : (a b : List ℕ) → Words (a ++ b) → Words a
+words-front [] b k = tt
+words-front (x ∷ a) b k = (k .0, words-front a b (k .1))
+
 pub words-take : (n : ℕ) (S : List ℕ) → Words S → Words (take n S)
 words-take zero S k = tt
 words-take (suc n) [] k = tt
@@ -213,3 +217,17 @@ pub account-owes : (q : Pos) (ends : ℕ) (H W S K : List ℕ) → Account q 0 0
 unfolding Account
 account-owes (out finished) ends H W S K a = a
 account-owes (within finished words b) ends H W S K a = absurd (omega (arith, a .0))
+
+-- Between commands with none waiting, the accepted commands are those that are sent.
+module _ (finished : List (List ℕ)) (H S K : List ℕ) where
+  pub account-listed : Account (out finished) 0 0 H [] S K → assign K S ≡ finished
+  unfolding Account
+  account-listed a = rw (a .1, a .2, assign-done finished [] H) (unfold assign in append-nil finished)
+
+  pub account-front : Account (out finished) 0 0 H [] S K → Words S → Words (concat finished)
+  unfolding Account
+  account-front a k = words-front (concat finished) H (rw (a .1) at k)
+
+pub account-fresh : (finished : List (List ℕ)) → Account (out finished) 0 0 [] [] (concat finished) (lengths finished)
+unfolding Account
+account-fresh finished = (refl, sym (append-nil (concat finished)), sym (append-nil (lengths finished)))

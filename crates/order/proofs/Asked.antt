@@ -19,7 +19,7 @@ use Rattle.bridge.specs.Runs.{Config, faults, next}
 use Rattle.bridge.proofs.Plans.{tame-word, tame-release}
 use Rattle.bridge.proofs.Reached.{Obeys, obeyed-turn, step-obeys}
 use Rattle.order.specs.Accepted.{planOf}
-use Rattle.order.specs.Premises.{clearing, Fair, Premises, FairAsAsked, AskedPremises}
+use Rattle.order.specs.Premises.{clearing, losing, Fair, Premises, FairAsAsked, AskedPremises}
 use Rattle.order.proofs.Faults.{fault-note}
 use Rattle.order.proofs.Truth.{never}
 
@@ -47,10 +47,9 @@ module _ (l : Layout) (fits : LayoutFit l) where
   asked-fair c e o a =
       record {
         typed = a .typed;
-        no-power = a .no-power;
         no-fault =
             rw (obeyed-turn l fits c e o) (event-fault l c e _ (a .no-clear) (rw (obeyed-turn l fits c e o) at (a .no-fault)));
-        no-loss = λ h. never (clearing l c e) h (a .no-clear);
+        no-loss = λ h. never (losing l c e) h (rw (a .no-power) (a .no-clear));
       }
 
   pub asked-premises : (c : Config) (es : List Event) → Obeys c → AskedPremises l c es → Premises l c es

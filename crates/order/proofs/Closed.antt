@@ -3,17 +3,19 @@ use mathlib.Core.Path.{_≡_, refl, sym, subst}
 use mathlib.Core.Bool.{Bool, true, false}
 use mathlib.Core.List.{List, _∷_}
 use Prim.Native.Nat.{ℕ}
+use Rattle.base.specs.Pick.{pick}
 use Rattle.command.specs.Layouts.{Layout, ours}
+use Rattle.line.specs.Format.{pieceLength}
+use Rattle.state.specs.Power.{powerUp, powerUpBad}
 use Rattle.state.specs.Rings.{written}
 use Rattle.kept.proofs.Fits.{LayoutFit, ours-fits}
-use Rattle.events.specs.Events.{reacted}
+use Rattle.events.specs.Events.{powered, reacted}
 use Rattle.events.specs.Turn.{turned, turn}
 use Rattle.events.specs.declared.Event.{Event}
 use Rattle.events.specs.declared.Event.the-variants.{Power}
-use Rattle.bridge.specs.Runs.{Config, RightStores, next, endOf, lineBit, soutOf, powerOn}
+use Rattle.bridge.specs.Runs.{Config, RightStores, faults, next, powerOn, AllSent}
 use Rattle.bridge.proofs.Reached.{obeyed-turn, power-obeys}
-use Rattle.order.specs.Accepted.{planOf, came, accepts, collects, joined, settle, logged, logBy, acceptedIn}
-use Rattle.order.specs.Premises.{Premises, AskedPremises}
+use Rattle.order.specs.Premises.{Fair, Premises, AskedPremises}
 use Rattle.order.specs.Demand.{Faithful}
 use Rattle.order.proofs.Order.{in-order, all-sent, exactly, exactly-all}
 use Rattle.order.proofs.Asked.{asked-premises}
@@ -27,16 +29,29 @@ module _ (l : Layout) (fits : LayoutFit l) (tx rx : List ℕ) (stores : RightSto
     exactly-all = exactly-all l fits good tx rx stores es p;
   }
 
-  -- A power event leaves the power-up value and the stores as lent, and shows and accepts nothing.
+  -- A power event leaves the power-up value and the stores as lent.
   power-next : (first good : Bool) → next l (powerOn first tx rx) (Power good) ≡ powerOn good tx rx
   unfolding next turn turned reacted written powerOn
   power-next first good = rw (obeyed-turn l fits (powerOn first tx rx) (Power good) (power-obeys l fits first tx rx stores)) refl
 
-  faithful-script : (first good : Bool) (es : List Event) → Faithful l (powerOn good tx rx) es → Faithful l (powerOn first tx rx) (Power good ∷ es)
-  unfolding endOf soutOf lineBit acceptedIn logBy logged planOf came accepts collects joined settle
-  faithful-script first good es f =
-      let h : Faithful l (next l (powerOn first tx rx) (Power good)) es = subst (λ (c : Config). Faithful l c es) (sym (power-next first good)) f in
-      record { in-order = h .in-order; exactly = h .exactly; all-sent = h .all-sent; exactly-all = h .exactly-all }
+  -- At power-up nothing accepted is unsent, so a power event is within the premises there.
+  power-sent : (good : Bool) → AllSent (powerOn good tx rx .bridge .sending)
+  unfolding powerOn powered pick powerUp powerUpBad pieceLength
+  power-sent true = record { idle-sender = refl; none-waits = refl }
+  power-sent false = record { idle-sender = refl; none-waits = refl }
+
+  power-fair : (first good : Bool) → Fair l (powerOn first tx rx) (Power good)
+  unfolding turn turned reacted faults
+  power-fair first good =
+      record {
+        typed = tt;
+        no-fault = rw (obeyed-turn l fits (powerOn first tx rx) (Power good) (power-obeys l fits first tx rx stores)) refl;
+        no-loss = λ h. power-sent first;
+      }
+
+  script-premises : (first good : Bool) (es : List Event) → Premises l (powerOn good tx rx) es → Premises l (powerOn first tx rx) (Power good ∷ es)
+  script-premises first good es p =
+      (power-fair first good, subst (λ (c : Config). Premises l c es) (sym (power-next first good)) p)
 
 module _ (good : Bool) (tx rx : List ℕ) (stores : RightStores tx rx) (es : List Event) where
   -- under as little as the proof needs
@@ -44,12 +59,15 @@ module _ (good : Bool) (tx rx : List ℕ) (stores : RightStores tx rx) (es : Lis
   demand-3 p = faithful ours ours-fits tx rx stores good es p
 
   -- under the demand's own premises
+  asked : AskedPremises ours (powerOn good tx rx) es → Premises ours (powerOn good tx rx) es
+  asked a = asked-premises ours ours-fits (powerOn good tx rx) es (power-obeys ours ours-fits good tx rx stores) a
+
   pub demand-3-as-asked : AskedPremises ours (powerOn good tx rx) es → Faithful ours (powerOn good tx rx) es
-  demand-3-as-asked a = demand-3 (asked-premises ours ours-fits (powerOn good tx rx) es (power-obeys ours ours-fits good tx rx stores) a)
+  demand-3-as-asked a = demand-3 (asked a)
 
   -- "It begins from the power-up value": a script whose first event is a power-up, good or bad
   pub demand-3-script : Premises ours (powerOn good tx rx) es → Faithful ours (powerOn true tx rx) (Power good ∷ es)
-  demand-3-script p = faithful-script ours ours-fits tx rx stores true good es (demand-3 p)
+  demand-3-script p = faithful ours ours-fits tx rx stores true (Power good ∷ es) (script-premises ours ours-fits tx rx stores true good es p)
 
   pub demand-3-script-as-asked : AskedPremises ours (powerOn good tx rx) es → Faithful ours (powerOn true tx rx) (Power good ∷ es)
-  demand-3-script-as-asked a = faithful-script ours ours-fits tx rx stores true good es (demand-3-as-asked a)
+  demand-3-script-as-asked a = demand-3-script (asked a)

@@ -17,7 +17,7 @@ use Rattle.line.proofs.Pieces.{Pos, out, within, at, upTo, after, Fits, part, s
 use Rattle.line.proofs.Trip.{tabulate, pieceBits, piece-bits, read-append, read-cons, read-tabulate, read-piece, read-start, round-trip}
 use Rattle.state.specs.declared.Sender.{Sender}
 use Rattle.order.specs.Exactly.{Spot, away, inside, lineAt, Proper, commandsAt, wordsAt, onward, firstBits, Follows, Exactly, Whole}
-use Rattle.order.proofs.Account.{counted, assign, concat, lengths, assign-done, words-snoc, words-take, Agrees, agrees-sent, agrees-before, Account, account-agrees, next-word, next-end, next-start, account-push, account-queue, account-back, sum, all-there, account-owes}
+use Rattle.order.proofs.Account.{counted, assign, concat, lengths, assign-done, words-snoc, words-take, Agrees, agrees-sent, agrees-before, Account, account-agrees, next-word, next-end, next-start, account-push, account-queue, account-back, sum, all-there, account-owes, account-listed, account-front, account-fresh}
 
 -- The last check bit of a command so far; with no words, its start bit.
 unfoldable pub lastCheck : Bool → List ℕ → Bool
@@ -301,6 +301,29 @@ exact-owing t ends H W bits S K x b l e =
     pause : (q : Spot) → Account (toPos q) 0 ends H W S K → Account (toPos (onward Pause q)) 0 ends H W S K
     pause q a = unfold onward in a
 
+-- A power-up with nothing to send: what was accepted is on the line, and what TX holds was not accepted.
+power-spot : (q : Spot) (H : List ℕ) (bits : List Bool) (S K : List ℕ) → bits ≡ lineAt q → Proper q → Account (toPos q) 0 0 H [] S K → Words S
+    → Exact (sends Pause 0 0 0) [] [] bits (concat (assign K S)) (lengths (assign K S))
+power-spot (away segments) H bits S K b p a k =
+    let c : Account (out (commandsOf segments)) 0 0 H [] S K = unfold toPos in a in
+    rw (account-listed (commandsOf segments) H S K c)
+    (record {
+      spot = away segments;
+      proper = p;
+      fits = tt;
+      short = unfold pieceLength in omega arith;
+      is = unfold tabulate in (b ∙ sym (append-nil (lineAt (away segments))));
+      account = unfold onward toPos in account-fresh (commandsOf segments);
+      low = account-front (commandsOf segments) H S K c k;
+    })
+power-spot (inside segments words) H bits S K b p a k = absurd (unfold toPos Account in omega (arith, a .0))
+
+pub exact-again : (t : Sender) (H : List ℕ) (bits : List Bool) (S K : List ℕ) → Exact t H [] bits S K → pieceLength (t .piece) ≤ t .gone
+    → t .left ≡ 0 → t .ends ≡ 0 → Exact (sends Pause 0 0 0) [] [] bits (concat (assign K S)) (lengths (assign K S))
+exact-again t H bits S K x b l e =
+    power-spot (onward (t .piece) (x .spot)) H bits S K (exact-between t H [] bits S K x b)
+    (proper-onward (t .piece) (x .spot) (x .fits) (x .proper)) (rw (l, e) at (x .account)) (x .low)
+
 -- With all sent, TX holds the words that no place counts.
 pub exact-all : (t : Sender) (H : List ℕ) (bits : List Bool) (S K : List ℕ) → Exact t H [] bits S K → t .left ≡ 0 → t .ends ≡ 0
     → length S ≡ sum K + length H
@@ -353,7 +376,7 @@ ended (away segments) bits H S K b p a =
       segments = segments;
       sixteen = p;
       bits-are = b ∙ unfold lineAt in refl;
-      commands-are = sym (rw (a .1, a .2, assign-done (commandsOf segments) [] H) (unfold assign in append-nil (commandsOf segments)));
+      commands-are = sym (account-listed (commandsOf segments) H S K a);
     }
 ended (inside segments words) bits H S K b p a = absurd (omega (arith, a .0))
 

@@ -153,6 +153,14 @@ pub afresh-shows : readLine (soutOf ours from afresh) .finished ≡ (0xAAF0 ∷ 
 unfolding meets sends-all afresh resetClosed owing softReset
 afresh-shows = shows-all afresh refl refl ∙ refl
 
+-- A second power-up once all is sent: what was accepted before it was sent before it.
+pub twice : List Event
+twice = opening ++ (frame (0x2000 ∷ 0xAAF0 ∷ []) ++ (ticks 36 ++ (Power true ∷ (opening ++ (frame (0x2000 ∷ 0x1234 ∷ []) ++ ticks 36)))))
+
+pub twice-shows : readLine (soutOf ours from twice) .finished ≡ (0xAAF0 ∷ []) ∷ (0x1234 ∷ []) ∷ []
+unfolding meets sends-all twice
+twice-shows = shows-all twice refl refl ∙ refl
+
 -- Scripts that begin with a power event. With good OTP:
 pub good-script : readLine (soutOf ours from (Power true ∷ together)) .finished ≡ (0xAAF0 ∷ []) ∷ (0x1234 ∷ 0x5678 ∷ []) ∷ []
 unfolding meets sends-all together

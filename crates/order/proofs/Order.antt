@@ -10,33 +10,26 @@ use lib.ListN.{length}
 use borrow.Author.Tests.{leb-true, eqb-true}
 use Rattle.base.specs.Pick.{pick, and-l, and-r}
 use Rattle.command.specs.Layouts.{Layout}
-use Rattle.line.specs.Format.{pieceLength}
 use Rattle.line.specs.Reader.{readLine, Sent}
-use Rattle.registers.specs.Registers.{blocking, powerUpControl, powerUpFlags}
-use Rattle.state.specs.Power.{powerUp, badControl, powerUpBad}
-use Rattle.state.specs.Queue.{waiting}
-use Rattle.state.specs.declared.Sending.{Sending}
-use Rattle.events.specs.Events.{powered}
 use Rattle.events.specs.declared.Event.{Event}
 use Rattle.kept.proofs.Fits.{LayoutFit}
 use Rattle.bridge.specs.Runs.{Config, RightStores, outOf, next, endOf, lineBit, soutOf, powerOn, AllSent}
 use Rattle.bridge.proofs.Reached.{Obeys, obeyed-turn, step-obeys, power-obeys}
-use Rattle.order.specs.Accepted.{planOf, Log, noLog, logged, logBy, listed, acceptedIn}
+use Rattle.order.specs.Accepted.{planOf, Log, noLog, joined, logged, logBy, listed, acceptedIn}
 use Rattle.order.specs.Premises.{Fair, Premises, typed}
 use Rattle.order.specs.Exactly.{Exactly, Whole}
-use Rattle.order.proofs.Ring.{view}
-use Rattle.order.proofs.Account.{countsOf, concat, lengths}
+use Rattle.order.proofs.Account.{concat, lengths}
 use Rattle.order.proofs.Exact.{exact-power, exact-sent, exact-exactly, exact-whole, whole-read}
-use Rattle.order.proofs.Sending.{Holds, inTx, none-counted, at-rest}
-use Rattle.order.proofs.Frames.{Kept, listed-kept}
-use Rattle.order.proofs.Steps.{Between, between-turn}
+use Rattle.order.proofs.Sending.{inTx, none-counted, at-rest}
+use Rattle.order.proofs.Frames.{listed-kept}
+use Rattle.order.proofs.Steps.{Between, between-fresh, between-turn}
 
 module _ (l : Layout) (fits : LayoutFit l) where
   between-step : (c : Config) (bits : List Bool) (g : Log) (e : Event) → Between c bits g → Obeys c → Fair l c e
       → Between (next l c e) (bits ++ lineBit e (outOf l c e .answer .sout)) (logged g (planOf l c e))
   unfolding next
   between-step c bits g e i o f =
-      between-turn l c bits g i e _ (obeyed-turn l fits c e o) (f .typed) (f .no-power) (f .no-fault) (f .no-loss)
+      between-turn l c bits g i e _ (obeyed-turn l fits c e o) (f .typed) (f .no-fault) (f .no-loss)
 
   between-run : (c : Config) (bits : List Bool) (g : Log) (es : List Event) → Between c bits g → Obeys c → Premises l c es
       → Between (endOf l c es) (bits ++ soutOf l c es) (logBy l g c es)
@@ -46,27 +39,9 @@ module _ (l : Layout) (fits : LayoutFit l) where
       rw (← (append-assoc bits (lineBit e (outOf l c e .answer .sout)) (soutOf l (next l c e) es)))
       (between-run (next l c e) _ _ es (between-step c bits g e i o (p .0)) (step-obeys l fits c e o) (p .1))
 
-holds-power : (good : Bool) (tx : List ℕ) → length tx ≡ 512 → Holds (powered good .sending) tx [] [] []
-unfolding powered pick powerUp powerUpBad view waiting countsOf
-holds-power true tx t =
-    record { exact = exact-power; head = omega arith; cells-are = t; queue = record { order = omega arith; most = omega arith; eight = refl } }
-holds-power false tx t =
-    record { exact = exact-power; head = omega arith; cells-are = t; queue = record { order = omega arith; most = omega arith; eight = refl } }
-
-kept-power : (good : Bool) → Kept (powered good .frame .phase) noLog [] []
-unfolding powered pick powerUp powerUpBad Kept concat lengths
-kept-power true = record { no-words = refl; not-accepted = refl; stored-are = refl; counts-are = refl }
-kept-power false = record { no-words = refl; not-accepted = refl; stored-are = refl; counts-are = refl }
-
-clear-power : (good : Bool) → blocking (powered good .control .flags) ≡ false
-unfolding powered pick powerUp powerUpBad powerUpControl powerUpFlags badControl blocking
-clear-power true = refl
-clear-power false = refl
-
 between-power : (good : Bool) (tx rx : List ℕ) → RightStores tx rx → Between (powerOn good tx rx) [] noLog
-unfolding powerOn
-between-power good tx rx r =
-    record { S = []; K = []; holds = holds-power good tx (r .tx-is); kept = kept-power good; no-fault = clear-power good; rx-is = r .rx-is }
+unfolding powerOn concat lengths joined
+between-power good tx rx r = between-fresh good tx rx [] [] r exact-power
 
 -- What the end of a run says of its line.
 in-order-between : (c : Config) (bits : List Bool) (g : Log) → Between c bits g → Sent (readLine bits) (listed g)

@@ -7,8 +7,11 @@ use native.Mathlib.Omega.{arith}
 use lib.ListN.{length}
 use Rattle.base.specs.Pick.{pick, pick-keeps}
 use Rattle.command.specs.Layouts.{Layout}
-use Rattle.registers.specs.Registers.{blocking}
+use Rattle.line.specs.declared.Piece.the-variants.{Pause}
+use Rattle.registers.specs.Registers.{blocking, powerUpControl, powerUpFlags}
 use Rattle.registers.specs.declared.Control.{Control}
+use Rattle.state.specs.Power.{powerUp, badControl, powerUpBad}
+use Rattle.state.specs.Queue.{waiting}
 use Rattle.state.specs.Rings.{oldest, written}
 use Rattle.state.specs.declared.Clock.{Clock}
 use Rattle.state.specs.declared.Phase.{Phase}
@@ -18,23 +21,24 @@ use Rattle.sender.specs.declared.Sent.{Sent as SentBits}
 use Rattle.reader.specs.Reader.{tickReader}
 use Rattle.host.specs.Plan.{settled, concluded, marked, performed}
 use Rattle.host.specs.declared.Plan.{Plan}
-use Rattle.events.specs.Events.{hosted, flagsSent, phaseAfter, controlTicked, tickEnds, tickHears, ticked, clocked, reacted}
+use Rattle.events.specs.Events.{powered, hosted, flagsSent, phaseAfter, controlTicked, tickEnds, tickHears, ticked, clocked, reacted}
 use Rattle.events.specs.Turn.{Out, turned, turn}
 use Rattle.events.specs.declared.Event.{Event}
 use Rattle.events.specs.declared.Event.the-variants.{Power, Word, Release, Tick, Clock as ClockReading}
-use Rattle.bridge.specs.Runs.{Config, faults, leftBy, lineBit, AllSent}
+use Rattle.bridge.specs.Runs.{Config, RightStores, faults, leftBy, lineBit, powerOn, AllSent}
 use Rattle.bridge.proofs.Plans.{tame-word, tame-release}
 use Rattle.bridge.proofs.Reached.{length-written}
-use Rattle.order.specs.Accepted.{planOf, Log, came, accepts, logged}
-use Rattle.order.specs.Premises.{Typed, isPower, clearing}
-use Rattle.order.proofs.Truth.{never}
-use Rattle.order.proofs.Ring.{length-view}
+use Rattle.order.specs.Accepted.{planOf, Log, came, accepts, collects, settle, logged, listed}
+use Rattle.order.specs.Premises.{Typed, isPower, losing}
+use Rattle.order.proofs.Truth.{never, or-none}
+use Rattle.order.proofs.Ring.{view, length-view}
 use Rattle.order.proofs.Waiting.{leaves-then}
-use Rattle.order.proofs.Account.{concat, lengths, sum, still-there}
-use Rattle.order.proofs.Sending.{Holds, inTx, holds-stored, holds-spent, holds-done, holds-queue, leaves-finished, holds-tick}
+use Rattle.order.proofs.Account.{countsOf, concat, lengths, sum, still-there}
+use Rattle.order.proofs.Exact.{Exact, sends, exact-again}
+use Rattle.order.proofs.Sending.{Holds, inTx, none-counted, at-rest, holds-stored, holds-spent, holds-done, holds-queue, leaves-finished, holds-tick}
 use Rattle.order.proofs.Hearing.{leaves-heard}
 use Rattle.order.proofs.Faults.{not-starved, tick-calm, clock-calm}
-use Rattle.order.proofs.Frames.{Kept, GoesBy, kept-same}
+use Rattle.order.proofs.Frames.{Shut, Kept, GoesBy, kept-same, listed-kept}
 use Rattle.order.proofs.Plans.{goes-word, goes-release}
 
 -- What holds between two events. S and K are the words stored and the counts queued so far.
@@ -45,6 +49,42 @@ pub record Between (c : Config) (bits : List Bool) (g : Log) : Type 0 where
   pub kept : Kept (c .bridge .frame .phase) g S K
   pub no-fault : blocking (c .bridge .control .flags) ≡ false
   pub rx-is : length (c .rx) ≡ 256
+
+-- Power-up, with these commands on the line and accepted.
+holds-power : (good : Bool) (tx : List ℕ) (bits : List Bool) (S K : List ℕ) → length tx ≡ 512 → Exact (sends Pause 0 0 0) [] [] bits S K
+    → Holds (powered good .sending) tx bits S K
+unfolding powered pick powerUp powerUpBad view waiting countsOf
+holds-power true tx bits S K t x =
+    record { exact = x; head = omega arith; cells-are = t; queue = record { order = omega arith; most = omega arith; eight = refl } }
+holds-power false tx bits S K t x =
+    record { exact = x; head = omega arith; cells-are = t; queue = record { order = omega arith; most = omega arith; eight = refl } }
+
+idle-power : (good : Bool) (g : Log) (S K : List ℕ) → Shut g S K → Kept (powered good .frame .phase) g S K
+unfolding powered pick powerUp powerUpBad Kept
+idle-power true g S K h = h
+idle-power false g S K h = h
+
+clear-power : (good : Bool) → blocking (powered good .control .flags) ≡ false
+unfolding powered pick powerUp powerUpBad powerUpControl powerUpFlags badControl blocking
+clear-power true = refl
+clear-power false = refl
+
+-- a log with these commands and no frame
+abbrev pub logOf : List (List ℕ) → Log
+logOf D = record { closed = D; words = []; accepted = false }
+
+pub between-fresh : (good : Bool) (tx rx : List ℕ) (bits : List Bool) (D : List (List ℕ)) → RightStores tx rx
+    → Exact (sends Pause 0 0 0) [] [] bits (concat D) (lengths D) → Between (powerOn good tx rx) bits (logOf D)
+unfolding powerOn
+between-fresh good tx rx bits D r x =
+    record {
+      S = concat D;
+      K = lengths D;
+      holds = holds-power good tx bits _ _ (r .tx-is) x;
+      kept = idle-power good (logOf D) _ _ (record { no-words = refl; not-accepted = refl; stored-are = refl; counts-are = refl });
+      no-fault = clear-power good;
+      rx-is = r .rx-is;
+    }
 
 -- The phase after a plan.
 kept-concluded : (l : Layout) (status : Bool) (c : Control) (ph : Phase) (g : Log) (S K : List ℕ) → (status ≡ true → ph ≡ Idle)
@@ -120,23 +160,33 @@ module _ (l : Layout) (c : Config) (bits : List Bool) (g : Log) (i : Between c b
         rx-is = i .rx-is;
       }
 
+  -- A power-up once all is sent: the accepted list is what the line shows.
+  between-again : (good : Bool) → AllSent (c .bridge .sending) → Between (powerOn good (c .tx) (c .rx)) bits (logOf (listed g))
+  between-again good a =
+      let s = c .bridge .sending in
+      let r = at-rest (s .sender) (a .idle-sender) in
+      between-fresh good (c .tx) (c .rx) bits (listed g) (record { tx-is = i .holds .cells-are; rx-is = i .rx-is })
+      (rw (listed-kept (c .bridge .frame .phase) g _ _ (i .kept))
+      (exact-again (s .sender) (inTx s (c .tx)) bits _ _ (rw (none-counted s a) at (i .holds .exact)) (r .0) (r .1) (r .2)))
+
   -- Any event, by its rule.
-  pub between-turn : (e : Event) (o : Out) → o ≡ turn l (c .bridge) (c .tx) (c .rx) e → Typed e → isPower e ≡ false
-      → faults (o .answer .note) ≡ false → (clearing l c e ≡ true → AllSent (c .bridge .sending))
+  pub between-turn : (e : Event) (o : Out) → o ≡ turn l (c .bridge) (c .tx) (c .rx) e → Typed e → faults (o .answer .note) ≡ false
+      → (losing l c e ≡ true → AllSent (c .bridge .sending))
       → Between (leftBy o) (bits ++ lineBit e (o .answer .sout)) (logged g (planOf l c e))
   unfolding turn turned reacted lineBit isPower planOf
-  between-turn (Power good) o q t p n k = never true refl p
-  between-turn (Word w) o q t p n k =
+  between-turn (Power good) o q t n k =
+      rw (q, append-nil) (unfold powerOn written logged came accepts collects settle listed in (rw (or-none (g .accepted) false refl) (between-again good (k refl))))
+  between-turn (Word w) o q t n k =
       let x = oldest (c .rx) (c .bridge .receiving .rx) in
       let f : faults (planOf l c (Word w) .note) ≡ false = rw q at n in
       rw (q, append-nil)
       (between-hosted (marked (c .bridge .clock)) (planOf l c (Word w))
       (goes-word (c .bridge) g (i .S) (i .K) spent l w x t reach (i .no-fault) (i .kept) (record { no-fault = f; no-loss = k }))
       (tame-word (c .bridge) l w x .calm (i .no-fault) f))
-  between-turn Release o q t p n k =
+  between-turn Release o q t n k =
       rw (q, append-nil)
       (between-hosted (c .bridge .clock) (planOf l c Release)
       (goes-release (c .bridge) g (i .S) (i .K) spent (c .bridge .frame .phase) reach (i .kept) k)
       (tame-release (c .bridge) (c .bridge .frame .phase) .calm (i .no-fault) (rw q at n)))
-  between-turn (Tick sin) o q t p n k = rw q (between-tick sin (rw q at n))
-  between-turn (ClockReading reading) o q t p n k = rw (q, append-nil) (between-clock reading)
+  between-turn (Tick sin) o q t n k = rw q (between-tick sin (rw q at n))
+  between-turn (ClockReading reading) o q t n k = rw (q, append-nil) (between-clock reading)

@@ -10,7 +10,7 @@ use Rattle.state.specs.declared.Sending.{Sending}
 use Rattle.events.specs.declared.Event.{Event}
 use Rattle.events.specs.declared.Event.the-variants.{Power, Word, Release, Tick, Clock as ClockReading}
 use Rattle.bridge.specs.Runs.{Config, faults, outOf, next, allSent, AllSent}
-use Rattle.order.specs.Premises.{Typed, isPower, clearing, Fair, Premises, typed, fair, premises}
+use Rattle.order.specs.Premises.{Typed, losing, Fair, Premises, typed, fair, premises}
 
 is-typed : (e : Event) → typed e ≡ true → Typed e
 unfolding typed
@@ -20,12 +20,11 @@ is-typed Release h = tt
 is-typed (Tick sin) h = tt
 is-typed (ClockReading reading) h = ltb-true reading 65536 h
 
-four : (a b c d : Bool) → (a && b && c && d) ≡ true → (a ≡ true) × (b ≡ true) × (c ≡ true) × (d ≡ true)
-four true true true true h = (refl, refl, refl, refl)
-four true true true false h = (refl, refl, refl, h)
-four true true false d h = (refl, refl, h, cc)
-four true false c d h = (refl, h, cc, cc)
-four false b c d h = (h, cc, cc, cc)
+three : (a b c : Bool) → (a && b && c) ≡ true → (a ≡ true) × (b ≡ true) × (c ≡ true)
+three true true true h = (refl, refl, refl)
+three true true false h = (refl, refl, h)
+three true false c h = (refl, h, cc)
+three false b c h = (h, cc, cc)
 
 pub is-all-sent : (s : Sending) → allSent s ≡ true → AllSent s
 unfolding allSent
@@ -40,12 +39,11 @@ module _ (l : Layout) where
   is-fair : (c : Config) (e : Event) → fair l c e ≡ true → Fair l c e
   unfolding fair
   is-fair c e h =
-      let a = four (typed e) (not (isPower e)) (not (faults (outOf l c e .answer .note))) _ h in
+      let a = three (typed e) (not (faults (outOf l c e .answer .note))) _ h in
       record {
         typed = is-typed e (a .0);
-        no-power = not-true _ (a .1);
-        no-fault = not-true _ (a .2);
-        no-loss = λ k. is-all-sent _ (either (clearing l c e) _ (a .3) k);
+        no-fault = not-true _ (a .1);
+        no-loss = λ k. is-all-sent _ (either (losing l c e) _ (a .2) k);
       }
 
   pub are-premises : (c : Config) (es : List Event) → premises l c es ≡ true → Premises l c es

@@ -1,5 +1,6 @@
--- What demand 3 asks of a run: "no transmit or queue fault, no transmit clear, soft reset or second power-up, and no frame cut short". It
--- speaks of flags, notes and deeds, never of hidden progress. Assumes nothing.
+-- What demand 3 asks of a run: "no transmit or queue fault, no transmit clear, soft reset or second power-up, and no frame cut short". That
+-- speaks of flags, notes and deeds alone (`AskedPremises`). The theorems need less (`Premises`): frames may be cut short, and what clears may
+-- come once all is sent. Assumes nothing.
 use mathlib.Core.Path.{_≡_}
 use mathlib.Core.Bool.{Bool, true, false, not, _&&_, _||_}
 use mathlib.Core.List.{List, [], _∷_}
@@ -34,12 +35,16 @@ isPower (ClockReading reading) = false
 abbrev pub clearing : Layout → Config → Event → Bool
 clearing l c e = clears (planOf l c e .deed)
 
--- What the theorems ask of an event: no transmit or queue fault, and a transmit clear or soft reset only where nothing accepted is unsent.
+-- what would lose what is accepted and not yet sent: a power-up too
+abbrev pub losing : Layout → Config → Event → Bool
+losing l c e = isPower e || clearing l c e
+
+-- What the theorems ask of an event: no transmit or queue fault; a power-up, transmit clear or soft reset only where nothing accepted is
+-- unsent.
 pub record Fair (l : Layout) (c : Config) (e : Event) : Type 0 where
   pub typed : Typed e
-  pub no-power : isPower e ≡ false
   pub no-fault : faults (outOf l c e .answer .note) ≡ false
-  pub no-loss : clearing l c e ≡ true → AllSent (c .bridge .sending)
+  pub no-loss : losing l c e ≡ true → AllSent (c .bridge .sending)
 
 abbrev pub Premises : Layout → Config → List Event → Type 0
 Premises l c [] = Unit {0}
@@ -70,8 +75,7 @@ typed (Tick sin) = true
 typed (ClockReading reading) = ltb reading 65536
 
 unfoldable pub fair : Layout → Config → Event → Bool
-fair l c e =
-    typed e && not (isPower e) && not (faults (outOf l c e .answer .note)) && (not (clearing l c e) || allSent (c .bridge .sending))
+fair l c e = typed e && not (faults (outOf l c e .answer .note)) && (not (losing l c e) || allSent (c .bridge .sending))
 
 unfoldable pub premises : Layout → Config → List Event → Bool
 premises l c [] = true
