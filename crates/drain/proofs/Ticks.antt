@@ -12,7 +12,7 @@ use Rattle.state.specs.Queue.{placeAt, waiting, begunOne}
 use Rattle.state.specs.Sending.{idle}
 use Rattle.state.specs.declared.Place.{Place}
 use Rattle.state.specs.declared.Sending.{Sending}
-use Rattle.rules.specs.Sound.{allSome}
+use Rattle.rules.specs.Facts.{allSome}
 use Rattle.sender.specs.Sender.{choose, queueSent, senderAfter, advanced, finished, isStarve, sentBy, tickSender}
 use Rattle.sender.specs.declared.Next.{Next}
 use Rattle.sender.specs.declared.Next.the-variants.{GoOn, LoadWord, Starve, LoadEnd, StartWords, StartEnds}

@@ -27,8 +27,9 @@ use Rattle.state.specs.declared.Receiving.{Receiving}
 use Rattle.kept.proofs.Control.{or-left, and-none, settled-control}
 use Rattle.kept.proofs.Tests.{or-true}
 use Rattle.rules.specs.Facts.{ControlRules}
-use Rattle.rules.specs.Sound.{otpSound, unmarkedIn, isUnmarked}
-use Rattle.events.specs.Events.{powered, isForward, blockedIn, withFlagsOf, starvedFlags, flagsSent, phaseAfter, controlTicked, tickEnds, tickHears, ticked, dogFires, watchFires, modeAt, flagsAt, controlAt, clocked}
+use Rattle.rules.specs.Sound.{otpSound, isUnmarked}
+use Rattle.state.specs.Frame.{isForward}
+use Rattle.events.specs.Events.{powered, blockedIn, withFlagsOf, starvedFlags, flagsSent, phaseAfter, controlTicked, tickEnds, tickHears, ticked, dogFires, watchFires, modeAt, flagsAt, controlAt, clocked}
 
 abbrev Obeys : Bridge → Type 0
 Obeys b = ControlRules (b .control) (b .receiving .rx .count) (b .frame .phase)
@@ -97,7 +98,7 @@ sent-otp f s =
 
 -- "while a blocking flag is or was up during this frame": a starved tick marks an open forward
 blocked-marked : (p : Phase) → isUnmarked (blockedIn p) ≡ false
-unfolding blockedIn isForward isUnmarked unmarkedIn
+unfolding blockedIn isForward isUnmarked
 blocked-marked Idle = refl
 blocked-marked (Collecting Filler got sum mine released blocked) = refl
 blocked-marked (Collecting Malformed got sum mine released blocked) = refl

@@ -9,6 +9,7 @@ use lib.ListN.{set}
 use Rattle.command.specs.Layouts.{Layout}
 use Rattle.command.specs.declared.Command.{Command}
 use Rattle.state.specs.Facts.{HostFit, Doable}
+use Rattle.state.specs.Frame.{isForward}
 use Rattle.state.specs.Rings.{written}
 use Rattle.state.specs.Sending.{stored}
 use Rattle.state.specs.declared.Bridge.{Bridge}
@@ -26,12 +27,9 @@ use Rattle.registers.specs.declared.Flag.the-variants.{LineCrc}
 use Rattle.registers.specs.declared.Flags.{Flags}
 use Rattle.sender.specs.declared.Sent.{Sent}
 use Rattle.base.specs.Pick.{pick-true}
-use Rattle.events.specs.Events.{isForward, blockedIn, same, starvedFlags, flagsSent}
+use Rattle.events.specs.Events.{blockedIn, same, starvedFlags, flagsSent}
 
 -- an arm knows the constructor
-pub to-forward : (c d : Command) (x : Bool) → c ≡ d → x ≡ isForward d → x ≡ isForward c
-to-forward c d x e f = f ∙ ap isForward (sym e)
-
 pub to-blocked : (p q : Phase) (x : Phase) → p ≡ q → x ≡ blockedIn q → x ≡ blockedIn p
 to-blocked p q x e f = f ∙ ap blockedIn (sym e)
 

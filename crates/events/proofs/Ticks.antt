@@ -6,7 +6,7 @@ use lib.Dec.{ltb, leb, eqb}
 use lib.ListN.{length}
 use borrow.Author.Tests.{not-true, eq-eqb}
 use Rattle.base.specs.Pick.{pick, and-l, and-r}
-use Rattle.events.specs.Events.{isForward, blockedIn, flagsSent, phaseAfter, controlTicked, tickEnds, tickHears, ticked}
+use Rattle.events.specs.Events.{blockedIn, flagsSent, phaseAfter, controlTicked, tickEnds, tickHears, ticked}
 use Rattle.command.specs.declared.Command.{Command}
 use Rattle.command.specs.declared.Command.the-variants.{Filler, Malformed, Forward, DataRead, RegisterWrite, RegisterRead, SoftReset}
 use Rattle.host.specs.Plan.{settled}
@@ -16,7 +16,7 @@ use Rattle.registers.specs.declared.Flags.{Flags}
 use Rattle.rules.specs.Sound.{sound}
 use Rattle.sender.specs.Sender.{mayStart, tickSender}
 use Rattle.sender.specs.declared.Sent.{Sent}
-use Rattle.state.specs.Frame.{mineOf, owedBy, toCome, forwardSound, collectSound, phaseSound}
+use Rattle.state.specs.Frame.{isForward, mineOf, owedBy, toCome, forwardSound, collectSound, phaseSound}
 use Rattle.state.specs.declared.Bridge.{Bridge}
 use Rattle.state.specs.declared.Phase.{Phase}
 use Rattle.state.specs.declared.Phase.the-variants.{Idle, Collecting, Answering, Discarding}

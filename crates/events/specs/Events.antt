@@ -4,8 +4,6 @@ use Prim.Native.Nat.{ℕ, _+_, _-_, _/_, _%_}
 use lib.Dec.{ltb, leb}
 use Rattle.base.specs.Pick.{pick}
 use Rattle.command.specs.Layouts.{Layout}
-use Rattle.command.specs.declared.Command.{Command}
-use Rattle.command.specs.declared.Command.the-variants.{Filler, Malformed, Forward, DataRead, RegisterWrite, RegisterRead, SoftReset}
 use Rattle.registers.specs.Registers.{isNormal}
 use Rattle.registers.specs.Raising.{raised}
 use Rattle.registers.specs.declared.Control.{Control}
@@ -13,6 +11,7 @@ use Rattle.registers.specs.declared.Flag.the-variants.{LineCrc, SinStuck, TxUvf
 use Rattle.registers.specs.declared.Flags.{Flags}
 use Rattle.registers.specs.declared.Mode.{Mode}
 use Rattle.registers.specs.declared.Mode.the-variants.{Failsafe}
+use Rattle.state.specs.Frame.{isForward}
 use Rattle.state.specs.Power.{powerUp, powerUpBad}
 use Rattle.state.specs.declared.Bridge.{Bridge}
 use Rattle.state.specs.declared.Clock.{Clock}
@@ -43,15 +42,6 @@ quietly b = record { bridge = b; sdo = noAnswer; sout = true; note = Done; tx = 
 -- a host's plan carried out
 abbrev pub hosted : Layout → Bridge → Clock → Plan → Did
 hosted l b clock p = record { bridge = performed l b clock p; sdo = p .sdo; sout = true; note = p .note; tx = p .store; rx = Keep }
-
-unfoldable pub isForward : Command → Bool
-isForward Filler = false
-isForward Malformed = false
-isForward (Forward crc words ends reads) = true
-isForward (DataRead crc words) = false
-isForward (RegisterWrite crc address count) = false
-isForward (RegisterRead crc address count) = false
-isForward SoftReset = false
 
 -- "while a blocking flag is or was up during this frame"
 unfoldable pub blockedIn : Phase → Phase

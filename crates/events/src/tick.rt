@@ -1,6 +1,5 @@
 // A line tick: the sender first, then the reader (01 Notes, The line).
 use crate::Did;
-use command::Command;
 use reader::Taken;
 use registers::Control;
 use registers::Flag;
@@ -15,34 +14,7 @@ use state::Sending;
 use state::Store;
 ghost use mathlib.Core.Path.{_≡_};
 ghost use Rattle.state.specs.Facts.{HostFit};
-ghost use Rattle.events.specs.Events.{isForward, blockedIn, same as sameOf, markAfter, watched as watchedOf, flagsSent, starvedFlags, controlTicked, tickNote, phaseAfter, tickEnds, ticked as tickedOf};
-
-fn is_forward(command: Command) -> bool
-    ensures { λ r. ⌜ r ≡ isForward command ⌝ }
-{
-    match command {
-        Command::Filler => false,
-        Command::Malformed => false,
-        Command::Forward {
-            crc: _,
-            words: _,
-            ends: _,
-            reads: _,
-        } => true,
-        Command::DataRead { crc: _, words: _ } => false,
-        Command::RegisterWrite {
-            crc: _,
-            address: _,
-            count: _,
-        } => false,
-        Command::RegisterRead {
-            crc: _,
-            address: _,
-            count: _,
-        } => false,
-        Command::SoftReset => false,
-    }
-}
+ghost use Rattle.events.specs.Events.{blockedIn, same as sameOf, markAfter, watched as watchedOf, flagsSent, starvedFlags, controlTicked, tickNote, phaseAfter, tickEnds, ticked as tickedOf};
 
 // A forward still being received is blocked.
 fn blocked(phase: Phase) -> Phase
@@ -62,7 +34,7 @@ fn blocked(phase: Phase) -> Phase
             crc: crc,
             mine: mine,
             released: released,
-            blocked: is_forward(command) | blocked,
+            blocked: state::is_forward(command) | blocked,
         },
         Phase::Idle => Phase::Idle,
         Phase::Answering { reply, crc } => Phase::Answering {

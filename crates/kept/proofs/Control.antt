@@ -40,7 +40,8 @@ use Rattle.state.specs.declared.Phase.the-variants.{Idle, Collecting, Answering
 use Rattle.state.specs.declared.Reply.{Reply}
 use Rattle.state.specs.declared.Reply.the-variants.{Status, Data, Registers, Check}
 use Rattle.rules.specs.Facts.{ControlRules}
-use Rattle.rules.specs.Sound.{otpSound, drdySound, unmarkedIn, isUnmarked}
+use Rattle.rules.specs.Sound.{otpSound, drdySound, isUnmarked}
+use Rattle.state.specs.Frame.{isForward}
 use Rattle.kept.proofs.Tests.{or-true}
 
 -- 1. DRDY, which is settled after each event.
@@ -209,7 +210,7 @@ module _ (b : Bridge) (o : otpSound (b .control .mode) (b .control .flags .otp) 
   forwarded-rises : (crc : Bool) (words ends : ℕ) (reads : Bool) (got sum mine : ℕ) (released blocked : Bool) (g : Granted)
       → (blocking (b .control .flags) && not blocked) ≡ false → Pays (b .control) g
       → Rises b (forwarded b (Forward crc words ends reads) got sum mine released blocked g)
-  unfolding forwarded isUnmarked unmarkedIn
+  unfolding forwarded isUnmarked isForward
   forwarded-rises crc words ends reads got sum mine released blocked g m y = record {
     otp = y .otp o;
     marked = go (blocking (faulted (b .control) (g .note) .flags)) (blocking (b .control .flags)) (clears (g .deed)) (y .blocks) m;
@@ -227,7 +228,7 @@ module _ (b : Bridge) (o : otpSound (b .control .mode) (b .control .flags .otp) 
 
   -- a blocking flag that "is .. up during this frame" marks it at once
   opened-rises : (c : Command) (sum : ℕ) → Rises b (opened b c sum)
-  unfolding opened forwardBegun isUnmarked unmarkedIn
+  unfolding opened forwardBegun isUnmarked isForward
   opened-rises Filler sum = plain-rises _ _ refl
   opened-rises Malformed sum = plain-rises _ _ refl
   opened-rises (Forward crc words ends reads) sum =
@@ -250,8 +251,8 @@ module _ (b : Bridge) (o : otpSound (b .control .mode) (b .control .flags .otp) 
       (λ h. effected-rises p _ false u (write-tame (b .control) _ (address + got) w))
 
   data-word-rises : (c : Command) (got sum mine : ℕ) (released blocked : Bool) (w : ℕ)
-      → (blocking (b .control .flags) && unmarkedIn c blocked) ≡ false → Rises b (dataWord b c got sum mine released blocked w)
-  unfolding dataWord forwardWord isUnmarked unmarkedIn
+      → (blocking (b .control .flags) && (isForward c && not blocked)) ≡ false → Rises b (dataWord b c got sum mine released blocked w)
+  unfolding dataWord forwardWord isUnmarked isForward
   data-word-rises Filler got sum mine released blocked w m = plain-rises _ _ refl
   data-word-rises Malformed got sum mine released blocked w m = plain-rises _ _ refl
   data-word-rises (Forward crc words ends reads) got sum mine released blocked w m =

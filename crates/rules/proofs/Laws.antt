@@ -19,12 +19,13 @@ use Rattle.registers.specs.declared.Mode.{Mode}
 use Rattle.state.specs.declared.Reader.{Reader}
 use Rattle.state.specs.declared.Reply.{Reply}
 use Rattle.state.specs.declared.Phase.{Phase}
+use Rattle.state.specs.declared.Phase.the-variants.{Collecting}
 use Rattle.state.specs.declared.Place.{Place}
 use Rattle.state.specs.declared.Queue.{Queue}
 use Rattle.state.specs.declared.Sending.{Sending}
 use Rattle.state.specs.Queue.{noPlace, placeAt, waiting, wordsOf}
-use Rattle.state.specs.Frame.{dataWords, owedBy, mineOf, toCome, collectSound, replySound, phaseSound}
-use Rattle.rules.specs.Sound.{placeSound, roleSound, slotSound, pieceSound, earSound, marksSound, otpSound, unmarkedIn, isUnmarked, lastLeft}
+use Rattle.state.specs.Frame.{isForward, dataWords, owedBy, mineOf, toCome, collectSound, replySound, phaseSound}
+use Rattle.rules.specs.Sound.{placeSound, roleSound, slotSound, pieceSound, earSound, marksSound, otpSound, isUnmarked, lastLeft}
 
 -- an arm knows the constructor
 pub to-collect : (v w : Command) (got mine : ℕ) (released blocked x : Bool) → v ≡ w → x ≡ collectSound w got mine released blocked
@@ -46,8 +47,11 @@ to-due v w x h e = rw h e
 pub to-unmarked : (v w : Phase) (x : Bool) → v ≡ w → x ≡ isUnmarked w → x ≡ isUnmarked v
 to-unmarked v w x h e = rw h e
 
-pub to-unmarked-in : (v w : Command) (blocked x : Bool) → v ≡ w → x ≡ unmarkedIn w blocked → x ≡ unmarkedIn v blocked
-to-unmarked-in v w blocked x h e = rw h e
+-- a frame that collects, by what its command was told to be
+pub forward-told : (v : Phase) (command : Command) (got crc mine : ℕ) (released blocked t : Bool) → v ≡ Collecting command got crc mine released blocked
+    → t ≡ isForward command → (t && not blocked) ≡ isUnmarked v
+unfolding isUnmarked
+forward-told v command got crc mine released blocked t h e = rw (h, e)
 
 pub to-otp : (v w : Mode) (otp x : Bool) → v ≡ w → x ≡ otpSound w otp → x ≡ otpSound v otp
 to-otp v w otp x h e = rw h e

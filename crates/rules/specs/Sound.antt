@@ -7,8 +7,6 @@ use lib.Dec.{ltb, leb, eqb}
 use Rattle.base.specs.Pick.{pick}
 use Rattle.crc16.specs.Crc.{start}
 use Rattle.command.specs.Layout.{mostWords, mostEnds}
-use Rattle.command.specs.declared.Command.{Command}
-use Rattle.command.specs.declared.Command.the-variants.{Filler, Malformed, Forward, DataRead, RegisterWrite, RegisterRead, SoftReset}
 use Rattle.line.specs.Format.{groupLength, endLength}
 use Rattle.line.specs.declared.Ear.{Ear}
 use Rattle.line.specs.declared.Ear.the-variants.{Quiet, Group, Lost}
@@ -22,7 +20,7 @@ use Rattle.registers.specs.declared.Mode.the-variants.{Normal, Init, Failsafe}
 use Rattle.state.specs.Queue.{places, placeAt, waiting, wordsOf, underWay, isDone}
 use Rattle.state.specs.Rings.{txSize, rxSize}
 use Rattle.state.specs.Sending.{idle}
-use Rattle.state.specs.Frame.{mineOf, toCome, phaseSound}
+use Rattle.state.specs.Frame.{isForward, mineOf, toCome, phaseSound}
 use Rattle.state.specs.declared.Ring.{Ring}
 use Rattle.state.specs.declared.Place.{Place}
 use Rattle.state.specs.declared.Queue.{Queue}
@@ -142,18 +140,9 @@ abbrev pub controlSound : Control → ℕ → Bool
 controlSound c count = regsSound (c .regs) && otpSound (c .mode) (c .flags .otp) && drdySound (c .drdy) (c .regs .rxfflvl) count
 
 -- an open forward that is not marked as blocked
-unfoldable pub unmarkedIn : Command → Bool → Bool
-unmarkedIn Filler blocked = false
-unmarkedIn Malformed blocked = false
-unmarkedIn (Forward crc words ends reads) blocked = not blocked
-unmarkedIn (DataRead crc words) blocked = false
-unmarkedIn (RegisterWrite crc address count) blocked = false
-unmarkedIn (RegisterRead crc address count) blocked = false
-unmarkedIn SoftReset blocked = false
-
 unfoldable pub isUnmarked : Phase → Bool
 isUnmarked Idle = false
-isUnmarked (Collecting command got crc mine released blocked) = unmarkedIn command blocked
+isUnmarked (Collecting command got crc mine released blocked) = isForward command && not blocked
 isUnmarked (Answering reply crc) = false
 isUnmarked Discarding = false
 

@@ -5,7 +5,7 @@ ghost use Prim.Native.Nat.{_+_};
 ghost use lib.Dec.{leb};
 ghost use Rattle.base.specs.Pick.{pick};
 ghost use Rattle.state.specs.Frame.{mineOf, owedBy, toCome, forwardSound, collectSound, replySound, phaseSound};
-ghost use Rattle.rules.specs.Sound.{unmarkedIn, isUnmarked};
+ghost use Rattle.rules.specs.Sound.{isUnmarked};
 use command::Command;
 use state::Phase;
 use state::Reply;
@@ -151,33 +151,6 @@ pub fn to_come(phase: Phase) -> u16
 }
 
 // An open forward that is not marked as blocked.
-fn unmarked_in(command: Command, blocked: bool) -> bool
-    ensures { λ r. ⌜ r ≡ unmarkedIn command blocked ⌝ }
-{
-    match command {
-        Command::Filler => false,
-        Command::Malformed => false,
-        Command::Forward {
-            crc: _,
-            words: _,
-            ends: _,
-            reads: _,
-        } => !blocked,
-        Command::DataRead { crc: _, words: _ } => false,
-        Command::RegisterWrite {
-            crc: _,
-            address: _,
-            count: _,
-        } => false,
-        Command::RegisterRead {
-            crc: _,
-            address: _,
-            count: _,
-        } => false,
-        Command::SoftReset => false,
-    }
-}
-
 pub fn is_unmarked(phase: Phase) -> bool
     ensures { λ r. ⌜ r ≡ isUnmarked phase ⌝ }
 {
@@ -190,7 +163,7 @@ pub fn is_unmarked(phase: Phase) -> bool
             mine: _,
             released: _,
             blocked,
-        } => unmarked_in(command, blocked),
+        } => state::is_forward(command) & !blocked,
         Phase::Answering { reply: _, crc: _ } => false,
         Phase::Discarding => false,
     }

@@ -1,5 +1,5 @@
 -- Laws of the definitions, in the form in which the functions' proofs ask them. Assumes nothing.
-use mathlib.Core.Path.{_≡_, refl, sym, _∙_, subst}
+use mathlib.Core.Path.{_≡_, refl, sym, _∙_, ap, subst}
 use mathlib.Core.Bool.{Bool, true, false, not, _&&_}
 use mathlib.Core.List.{List, [], _∷_, map}
 use Prim.Native.Nat.{ℕ, zero, suc, _+_, _-_, _≤_, _<_}
@@ -13,6 +13,8 @@ use Rattle.line.specs.declared.Piece.{Piece}
 use Rattle.line.specs.Format.{pieceLength}
 use Rattle.state.specs.Queue.{noPlace, placeAt, underWay, isDone, differs, freed, returned, firstUnread, claimed}
 use Rattle.state.specs.Sending.{owing, stored, done}
+use Rattle.command.specs.declared.Command.{Command}
+use Rattle.state.specs.Frame.{isForward}
 use Rattle.state.specs.Facts.{QueueFit, Doable}
 use Rattle.state.specs.declared.Place.{Place}
 use Rattle.state.specs.declared.Queue.{Queue}
@@ -112,3 +114,7 @@ to-clear s c e = rw e refl
 -- a sender by what its piece's length was told to be
 pub to-idle : (n g : ℕ) (p : Piece) (a b : Bool) → n ≡ pieceLength p → (leb n g && a && b) ≡ (leb (pieceLength p) g && a && b)
 to-idle n g p a b h = rw h
+
+-- an arm knows the command
+pub to-forward : (c d : Command) (x : Bool) → c ≡ d → x ≡ isForward d → x ≡ isForward c
+to-forward c d x e f = f ∙ ap isForward (sym e)

@@ -21,6 +21,15 @@ dataWords (RegisterWrite crc address count) = count
 dataWords (RegisterRead crc address count) = 0
 dataWords SoftReset = 0
 
+unfoldable pub isForward : Command → Bool
+isForward Filler = false
+isForward Malformed = false
+isForward (Forward crc words ends reads) = true
+isForward (DataRead crc words) = false
+isForward (RegisterWrite crc address count) = false
+isForward (RegisterRead crc address count) = false
+isForward SoftReset = false
+
 unfoldable pub mineOf : Phase → ℕ
 mineOf Idle = 0
 mineOf (Collecting command got crc mine released blocked) = mine

@@ -1,6 +1,6 @@
 // The bridge's record (01 What the bridge is), in sub-records by the rule that changes them. Counts are narrow: the whole is below 256 bytes.
 ghost use mathlib.Core.Path.{_≡_};
-ghost use Rattle.state.specs.Frame.{dataWords};
+ghost use Rattle.state.specs.Frame.{dataWords, isForward};
 ghost use Rattle.state.specs.Notes.{noteNumber};
 ghost use Rattle.state.specs.Power.{powerUp, powerUpBad};
 
@@ -293,5 +293,32 @@ pub fn data_words(command: Command) -> u16
             count: _,
         } => 0,
         Command::SoftReset => 0,
+    }
+}
+
+pub fn is_forward(command: Command) -> bool
+    ensures { λ r. ⌜ r ≡ isForward command ⌝ }
+{
+    match command {
+        Command::Filler => false,
+        Command::Malformed => false,
+        Command::Forward {
+            crc: _,
+            words: _,
+            ends: _,
+            reads: _,
+        } => true,
+        Command::DataRead { crc: _, words: _ } => false,
+        Command::RegisterWrite {
+            crc: _,
+            address: _,
+            count: _,
+        } => false,
+        Command::RegisterRead {
+            crc: _,
+            address: _,
+            count: _,
+        } => false,
+        Command::SoftReset => false,
     }
 }

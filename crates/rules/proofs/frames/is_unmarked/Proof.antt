@@ -1,11 +1,11 @@
 use borrow.Author.Needs.{needs}
 use Rattle.rules.specs.Sound.{isUnmarked}
-use Rattle.rules.proofs.Laws.{to-unmarked}
+use Rattle.rules.proofs.Laws.{to-unmarked, forward-told}
 use Rattle.rules.proofs.frames.is_unmarked.Statement.{statement}
 use Rattle.rules.proofs.frames.is_unmarked.Tie as tie
 use Rattle.rules.proofs.frames.is_unmarked.Reads as reads
 use Rattle.rules.proofs.frames.is_unmarked.Lts as lts
-use Rattle.rules.proofs.frames.unmarked_in.Reads as unmarked-in-reads
+use Rattle.state.proofs.is_forward.Reads as is-forward-reads
 
 enum-told : tie.Need-enum-told
 enum-told c = search needs
@@ -13,8 +13,8 @@ enum-told c = search needs
 enum-known-phase : tie.Need-enum-known-phase
 enum-known-phase c = search needs
 
-unmarked-in-requires : tie.Need-unmarked-in-requires
-unmarked-in-requires c κs = search needs
+is-forward-requires : tie.Need-is-forward-requires
+is-forward-requires c κs = search needs
 
 enum-told-2 : tie.Need-enum-told-2
 enum-told-2 c = search needs
@@ -28,7 +28,7 @@ returns c = search (needs, to-unmarked)
 
 returns-2 : tie.Need-returns-2
 unfolding isUnmarked
-returns-2 c = search (needs, to-unmarked)
+returns-2 c = search (needs, forward-told)
 
 returns-3 : tie.Need-returns-3
 unfolding isUnmarked
@@ -44,7 +44,7 @@ is-unmarked-spec =
     (tie.spec
     enum-told
     enum-known-phase
-    unmarked-in-requires
+    is-forward-requires
     enum-told-2
     enum-told-3
     returns

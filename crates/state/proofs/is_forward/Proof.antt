@@ -1,10 +1,9 @@
+-- `state::is_forward` meets its contract.
 use borrow.Author.Needs.{needs}
-use Rattle.rules.specs.Sound.{unmarkedIn}
-use Rattle.rules.proofs.Laws.{to-unmarked-in}
-use Rattle.rules.proofs.frames.unmarked_in.Statement.{statement}
-use Rattle.rules.proofs.frames.unmarked_in.Tie as tie
-use Rattle.rules.proofs.frames.unmarked_in.Reads as reads
-use Rattle.rules.proofs.frames.unmarked_in.Lts as lts
+use Rattle.state.specs.Frame.{isForward}
+use Rattle.state.proofs.Laws.{to-forward}
+use Rattle.state.proofs.is_forward.Statement.{statement}
+use Rattle.state.proofs.is_forward.Tie as tie
 
 enum-told : tie.Need-enum-told
 enum-told c = search needs
@@ -28,35 +27,35 @@ enum-told-7 : tie.Need-enum-told-7
 enum-told-7 c = search needs
 
 returns : tie.Need-returns
-unfolding unmarkedIn
-returns c = search (needs, to-unmarked-in)
+unfolding isForward
+returns c = search (needs, to-forward)
 
 returns-2 : tie.Need-returns-2
-unfolding unmarkedIn
-returns-2 c = search (needs, to-unmarked-in)
+unfolding isForward
+returns-2 c = search (needs, to-forward)
 
 returns-3 : tie.Need-returns-3
-unfolding unmarkedIn
-returns-3 c = search (needs, to-unmarked-in)
+unfolding isForward
+returns-3 c = search (needs, to-forward)
 
 returns-4 : tie.Need-returns-4
-unfolding unmarkedIn
-returns-4 c = search (needs, to-unmarked-in)
+unfolding isForward
+returns-4 c = search (needs, to-forward)
 
 returns-5 : tie.Need-returns-5
-unfolding unmarkedIn
-returns-5 c = search (needs, to-unmarked-in)
+unfolding isForward
+returns-5 c = search (needs, to-forward)
 
 returns-6 : tie.Need-returns-6
-unfolding unmarkedIn
-returns-6 c = search (needs, to-unmarked-in)
+unfolding isForward
+returns-6 c = search (needs, to-forward)
 
 returns-7 : tie.Need-returns-7
-unfolding unmarkedIn
-returns-7 c = search (needs, to-unmarked-in)
+unfolding isForward
+returns-7 c = search (needs, to-forward)
 
-pub unmarked-in-spec : {M : Type 1} → statement M
-unmarked-in-spec =
+pub is-forward-spec : {M : Type 1} → statement M
+is-forward-spec =
     tie.close
     (tie.spec
     enum-told
