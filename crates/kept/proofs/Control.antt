@@ -96,7 +96,6 @@ isReset ResetAll = true
 pub record Rises (b : Bridge) (p : Plan) : Type 0 where
   pub otp : otpSound (p .control .mode) (p .control .flags .otp) ≡ true
   pub marked : (blocking (p .control .flags) && isUnmarked (p .phase)) ≡ false
-  pub blocks : blocking (p .control .flags) ≡ true → (blocking (b .control .flags) || clears (p .deed)) ≡ true
   pub hears : rxff (p .control .flags) ≡ true → (rxff (b .control .flags) || stops (p .receive)) ≡ true
   pub resets : isReset (p .deed) ≡ true → p .receive ≡ ResetRx
 
@@ -193,7 +192,6 @@ module _ (b : Bridge) (o : otpSound (b .control .mode) (b .control .flags .otp) 
   tame-rises p t u r = record {
     otp = t .otp o;
     marked = and-none (blocking (p .control .flags)) _ u;
-    blocks = λ h. or-left _ _ (t .blocks h);
     hears = λ h. or-left _ _ (t .hears h);
     resets = r;
   }
@@ -214,7 +212,6 @@ module _ (b : Bridge) (o : otpSound (b .control .mode) (b .control .flags .otp) 
   forwarded-rises crc words ends reads got sum mine released blocked g m y = record {
     otp = y .otp o;
     marked = go (blocking (faulted (b .control) (g .note) .flags)) (blocking (b .control .flags)) (clears (g .deed)) (y .blocks) m;
-    blocks = y .blocks;
     hears = λ h. or-left _ _ (y .hears h);
     resets = λ h. cc (y .stands);
   }
@@ -275,7 +272,6 @@ module _ (b : Bridge) (o : otpSound (b .control .mode) (b .control .flags .otp) 
       record {
         otp = y .otp o;
         marked = and-none (blocking (forwardClosed b crc words ends reads blocked .control .flags)) _ refl;
-        blocks = y .blocks;
         hears = λ h. or-left _ _ (y .hears h);
         resets = λ h. cc (y .stands);
       }
@@ -319,7 +315,6 @@ module _ (b : Bridge) (o : otpSound (b .control .mode) (b .control .flags .otp) 
   empty-rises p u = record {
     otp = o;
     marked = and-none (blocking (b .control .flags)) _ u;
-    blocks = λ e. or-left _ _ e;
     hears = λ e. or-true (rxff (b .control .flags));
     resets = λ e. cc;
   }
