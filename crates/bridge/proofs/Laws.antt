@@ -1,5 +1,5 @@
 -- Laws of a step, as the proof of `step` asks them. Assumes nothing.
-use mathlib.Core.Path.{_≡_, refl, sym, _∙_, ap}
+use mathlib.Core.Path.{_≡_, sym, _∙_, ap}
 use mathlib.Core.Bool.{Bool, true}
 use mathlib.Core.List.{List}
 use Prim.Native.Nat.{ℕ}
@@ -8,7 +8,7 @@ use Rattle.state.specs.Rings.{txSize, rxSize}
 use Rattle.state.specs.declared.Bridge.{Bridge}
 use Rattle.state.specs.declared.Note.{Note}
 use Rattle.rules.specs.Sound.{sound}
-use Rattle.events.specs.Turn.{Out, out, Ready}
+use Rattle.events.specs.Turn.{out, Ready}
 use Rattle.events.specs.declared.Answer.{Answer}
 use Rattle.bridge.specs.Step.{refusal, refused}
 

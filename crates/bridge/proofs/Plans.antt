@@ -1,7 +1,7 @@
 -- The host's plans, by what they tell the outside: no plan is a refusal or a starved tick's, and without note 8 or 9 none raises a blocking
 -- flag (01 Notes: both are transmit clears). Assumes nothing.
 use mathlib.Core.Path.{_≡_, refl}
-use mathlib.Core.Bool.{Bool, true, false, not, _&&_, _||_}
+use mathlib.Core.Bool.{Bool, true, false, not, _||_}
 use mathlib.Core.List.{List, [], _∷_}
 use Prim.Native.Nat.{ℕ, zero, suc, _+_}
 use lib.Dec.{eqb}

@@ -6,12 +6,12 @@ use mathlib.Core.List.{List, [], _∷_}
 use Prim.Native.Nat.{ℕ}
 use lib.Dec.{eqb}
 use lib.ListN.{length, length-set}
-use borrow.Author.Tests.{eq-eqb, not-true}
+use borrow.Author.Tests.{eq-eqb}
 use Rattle.base.specs.Pick.{pick, pick-keeps}
 use Rattle.command.specs.Layouts.{Layout}
 use Rattle.rules.specs.Sound.{sound}
 use Rattle.state.specs.Notes.{noteNumber}
-use Rattle.state.specs.Rings.{txSize, rxSize, oldest, written}
+use Rattle.state.specs.Rings.{txSize, rxSize, written}
 use Rattle.state.specs.declared.Bridge.{Bridge}
 use Rattle.state.specs.declared.Note.{Note}
 use Rattle.state.specs.declared.Ring.{Ring}

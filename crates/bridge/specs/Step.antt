@@ -1,5 +1,5 @@
 -- One event for the outside (01 What the bridge is; Notes, 1 and 2): refused with everything as lent, or the event's rule carried out.
-use mathlib.Core.Bool.{Bool, true, false}
+use mathlib.Core.Bool.{true}
 use mathlib.Core.List.{List}
 use Prim.Native.Nat.{ℕ}
 use lib.Dec.{eqb}

@@ -1,6 +1,6 @@
 -- What draining leaves is what so many steps leave, one by one, whatever the record, the stores and the budget. There are eight places, as the
 -- array's type says.
-use mathlib.Core.Path.{_≡_, refl, sym, _∙_, ap, subst}
+use mathlib.Core.Path.{_≡_, refl, sym, _∙_, ap}
 use mathlib.Core.Bool.{Bool, true, false}
 use mathlib.Core.List.{List}
 use Prim.Native.Nat.{ℕ, zero, suc, _+_, _≤_, _<_}
@@ -18,7 +18,7 @@ use Rattle.state.specs.declared.Note.the-variants.{Done, WrongStores, BrokenRec
 use Rattle.rules.specs.Sound.{sound}
 use Rattle.kept.proofs.Fits.{LayoutFit, ours-fits}
 use Rattle.kept.proofs.Sound.{sound-facts}
-use Rattle.events.specs.Turn.{Out, turn}
+use Rattle.events.specs.Turn.{Out}
 use Rattle.events.specs.declared.Event.{Event}
 use Rattle.events.specs.declared.Event.the-variants.{Tick}
 use Rattle.bridge.specs.Runs.{Config, refuses, outOf, next, endOf}

@@ -2,7 +2,6 @@
 -- states stepped through"). Assumes nothing.
 use mathlib.Core.Path.{_≡_}
 use mathlib.Core.Bool.{true, false}
-use mathlib.Core.List.{List}
 use Prim.Native.Nat.{ℕ, zero, suc, _+_, _≤_, _<_}
 use lib.ListN.{replicate}
 use Rattle.base.specs.Pick.{pick}

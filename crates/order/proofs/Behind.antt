@@ -13,9 +13,9 @@ use Rattle.state.specs.declared.Deed.{Deed}
 use Rattle.state.specs.declared.Deed.the-variants.{Leave}
 use Rattle.state.specs.declared.Phase.{Phase}
 use Rattle.state.specs.declared.Phase.the-variants.{Idle, Collecting, Answering, Discarding}
-use Rattle.events.specs.Events.{blockedIn}
 use Rattle.state.specs.Frame.{isForward}
-use Rattle.order.specs.Accepted.{Log, came, accepts, collects, joined, settle, listed}
+use Rattle.events.specs.Events.{blockedIn}
+use Rattle.order.specs.Accepted.{Log, accepts, collects, joined, settle, listed}
 use Rattle.order.specs.Framed.{Framed, more, frame}
 use Rattle.order.proofs.Truth.{never, or-none}
 

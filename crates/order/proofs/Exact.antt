@@ -17,7 +17,7 @@ use Rattle.line.proofs.Pieces.{Pos, out, within, at, upTo, after, Fits, part, s
 use Rattle.line.proofs.Trip.{tabulate, pieceBits, piece-bits, read-append, read-cons, read-tabulate, read-piece, read-start, round-trip}
 use Rattle.state.specs.declared.Sender.{Sender}
 use Rattle.order.specs.Exactly.{Spot, away, inside, lineAt, Proper, commandsAt, wordsAt, onward, firstBits, Follows, Exactly, Whole}
-use Rattle.order.proofs.Account.{counted, assign, concat, lengths, assign-done, words-snoc, words-take, Agrees, agrees-sent, agrees-before, Account, account-agrees, next-word, next-end, next-start, account-push, account-queue, account-back, sum, all-there, account-owes, account-listed, account-front, account-fresh}
+use Rattle.order.proofs.Account.{counted, assign, concat, lengths, words-snoc, words-take, Agrees, agrees-sent, agrees-before, Account, account-agrees, next-word, next-end, next-start, account-push, account-queue, account-back, sum, all-there, account-owes, account-listed, account-front, account-fresh}
 
 -- The last check bit of a command so far; with no words, its start bit.
 unfoldable pub lastCheck : Bool → List ℕ → Bool

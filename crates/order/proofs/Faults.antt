@@ -1,4 +1,5 @@
--- Blocking flags: a tick raises TXFFUVF alone, and only where it is starved, which is note 13; what it hears and a clock reading raise none (01 Notes; "Blocking flags are TXFFOVF, TXFFUVF and QUEUE_OVF"). Assumes nothing.
+-- Blocking flags: a tick raises TXFFUVF alone, and only where it is starved, which is note 13; what it hears and a clock reading raise none
+-- (01 Notes; "Blocking flags are TXFFOVF, TXFFUVF and QUEUE_OVF"). Assumes nothing.
 use mathlib.Core.Path.{_≡_, refl, sym, _∙_}
 use mathlib.Core.Bool.{Bool, true, false, _||_}
 use Prim.Native.Nat.{ℕ}

@@ -23,7 +23,7 @@ use Rattle.events.specs.declared.Event.the-variants.{Power, Word, Release, Tick
 use Rattle.bridge.specs.Runs.{Config, RightStores, next, powerOn}
 use Rattle.bridge.proofs.Reached.{Obeys, obeyed-turn, step-obeys, power-obeys}
 use Rattle.order.specs.Accepted.{planOf, Log, noLog, came, accepts, collects, settle, logged, logBy, listed, acceptedIn}
-use Rattle.order.specs.Framed.{wordOf, hostWords, Framed, start, frame}
+use Rattle.order.specs.Framed.{wordOf, hostWords, Framed, start}
 use Rattle.order.proofs.Behind.{Shut, Stands, framed-over, framed-listed, same, blocks}
 use Rattle.order.proofs.HostWords.{AfterBy, closes, word-after}
 

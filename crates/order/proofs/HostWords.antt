@@ -27,9 +27,8 @@ use Rattle.host.specs.Frames.{opened, heldWord, registerWord, dataWord, wrongCr
 use Rattle.host.specs.declared.Granted.{Granted}
 use Rattle.host.specs.declared.Plan.{Plan}
 use Rattle.host.specs.declared.Wish.{Wish}
-use Rattle.bridge.specs.Runs.{next}
 use Rattle.order.specs.Accepted.{Log, came, accepts, collects, joined, settle}
-use Rattle.order.specs.Framed.{Framed, frame}
+use Rattle.order.specs.Framed.{Framed}
 use Rattle.order.proofs.Truth.{never, or-none}
 use Rattle.order.proofs.Behind.{Shut, Open, InFrame, Stands, on, shut-more, framed-open, framed-shut}
 

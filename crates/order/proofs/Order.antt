@@ -1,14 +1,9 @@
 -- Demand 3: from power-up, under the premises, the line shows the accepted commands that carry words, in order, every word unchanged; once
 -- all are sent it shows them all; and its bits are exactly theirs.
-use mathlib.Core.Path.{_≡_, refl}
-use mathlib.Core.Bool.{Bool, true, false, _&&_}
+use mathlib.Core.Path.{_≡_}
+use mathlib.Core.Bool.{Bool}
 use mathlib.Core.List.{List, [], _∷_, _++_, append-assoc, append-nil}
-use Prim.Native.Nat.{ℕ, _-_}
-use native.Mathlib.Omega.{arith}
-use lib.Dec.{leb, eqb}
-use lib.ListN.{length}
-use borrow.Author.Tests.{leb-true, eqb-true}
-use Rattle.base.specs.Pick.{pick, and-l, and-r}
+use Prim.Native.Nat.{ℕ}
 use Rattle.command.specs.Layouts.{Layout}
 use Rattle.line.specs.Reader.{readLine, Sent}
 use Rattle.events.specs.declared.Event.{Event}
@@ -16,7 +11,7 @@ use Rattle.kept.proofs.Fits.{LayoutFit}
 use Rattle.bridge.specs.Runs.{Config, RightStores, outOf, next, endOf, lineBit, soutOf, powerOn, AllSent}
 use Rattle.bridge.proofs.Reached.{Obeys, obeyed-turn, step-obeys, power-obeys}
 use Rattle.order.specs.Accepted.{planOf, Log, noLog, joined, logged, logBy, listed, acceptedIn}
-use Rattle.order.specs.Premises.{Fair, Premises, typed}
+use Rattle.order.specs.Premises.{Fair, Premises}
 use Rattle.order.specs.Exactly.{Exactly, Whole}
 use Rattle.order.proofs.Account.{concat, lengths}
 use Rattle.order.proofs.Exact.{exact-power, exact-sent, exact-exactly, exact-whole, whole-read}
