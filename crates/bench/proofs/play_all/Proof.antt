@@ -1,9 +1,9 @@
--- `bench::do_all` meets its contract.
+-- `bench::play_all` meets its contract.
 use mathlib.Core.Path.{_≡_}
 use lib.ListN.{length}
 use borrow.Author.Needs.{needs}
-use Rattle.bench.proofs.do_all.Statement.{statement}
-use Rattle.bench.proofs.do_all.Tie as tie
+use Rattle.bench.proofs.play_all.Statement.{statement}
+use Rattle.bench.proofs.play_all.Tie as tie
 
 abbrev Inv-loop : tie.InvT-loop
 Inv-loop fd tx₀ rx₀ bridge₀ turns₀ tx rx bridge turns = (length tx ≡ 512) × (length rx ≡ 256)
@@ -11,20 +11,17 @@ Inv-loop fd tx₀ rx₀ bridge₀ turns₀ tx rx bridge turns = (length tx ≡ 5
 abbrev μ-loop : tie.MeasureT-loop
 μ-loop fd tx₀ rx₀ bridge₀ turns₀ tx rx bridge turns = turns
 
-good-requires : tie.Need-good-requires Inv-loop μ-loop
-good-requires c κs = search needs
-
 loop-holds : tie.Need-loop-holds Inv-loop μ-loop
 loop-holds c = search needs
 
-slice-aggregate-do-some : tie.Need-slice-aggregate-do-some Inv-loop μ-loop
-slice-aggregate-do-some c = search needs
+slice-aggregate-play-some : tie.Need-slice-aggregate-play-some Inv-loop μ-loop
+slice-aggregate-play-some c = search needs
 
-slice-aggregate-do-some-2 : tie.Need-slice-aggregate-do-some-2 Inv-loop μ-loop
-slice-aggregate-do-some-2 c = search needs
+slice-aggregate-play-some-2 : tie.Need-slice-aggregate-play-some-2 Inv-loop μ-loop
+slice-aggregate-play-some-2 c = search needs
 
-do-some-requires : tie.Need-do-some-requires Inv-loop μ-loop
-do-some-requires c κs = search needs
+play-some-requires : tie.Need-play-some-requires Inv-loop μ-loop
+play-some-requires c κs = search needs
 
 returns : tie.Need-returns Inv-loop μ-loop
 returns c = search needs
@@ -41,17 +38,16 @@ loop-again c = search needs
 returns-2 : tie.Need-returns-2 Inv-loop μ-loop
 returns-2 c = search needs
 
-pub do-all-spec : {M : Type 1} → statement M
-do-all-spec =
+pub play-all-spec : {M : Type 1} → statement M
+play-all-spec =
     tie.close
     (tie.spec
     Inv-loop
     μ-loop
-    good-requires
     loop-holds
-    slice-aggregate-do-some
-    slice-aggregate-do-some-2
-    do-some-requires
+    slice-aggregate-play-some
+    slice-aggregate-play-some-2
+    play-some-requires
     returns
     sub-turns
     loop-less

@@ -1,19 +1,20 @@
--- `bench::put` meets its contract.
-use Prim.Native.Nat.{_≤_, _-_}
+-- `playing::put` meets its contract: a turn of its loop is `put-again`.
+use Prim.Native.Nat.{_-_}
 use mathlib.Core.Path.{_≡_}
 use lib.ListN.{length}
 use borrow.Author.Needs.{needs}
-use Rattle.bench.proofs.put.Statement.{statement}
-use Rattle.bench.proofs.put.Tie as tie
+use Rattle.playing.proofs.Laws.{Put, put-begins, put-again, put-ends}
+use Rattle.playing.proofs.put.Statement.{statement}
+use Rattle.playing.proofs.put.Tie as tie
 
 abbrev Inv-loop : tie.InvT-loop
-Inv-loop out₀ at line i₀ out i = (i ≤ 17) × (length out ≡ length out₀)
+Inv-loop out₀ at line i₀ out i = Put out₀ at line i out
 
 abbrev μ-loop : tie.MeasureT-loop
-μ-loop out₀ at line i₀ out i = 17 - i
+μ-loop out₀ at line i₀ out i = line .length - i
 
 loop-holds : tie.Need-loop-holds Inv-loop μ-loop
-loop-holds c = search needs
+loop-holds c = search (needs, put-begins)
 
 element-copy-out-out : tie.Need-element-copy-out-out Inv-loop μ-loop
 element-copy-out-out c = search needs
@@ -31,7 +32,7 @@ loop-less : tie.Need-loop-less Inv-loop μ-loop
 loop-less c = search needs
 
 loop-again : tie.Need-loop-again Inv-loop μ-loop
-loop-again c = search needs
+loop-again c = search (needs, put-again)
 
 add-result : tie.Need-add-result Inv-loop μ-loop
 add-result c = search needs
@@ -40,16 +41,7 @@ same-length : tie.Need-same-length Inv-loop μ-loop
 same-length c = search needs
 
 returns : tie.Need-returns Inv-loop μ-loop
-returns c = search needs
-
-add-result-2 : tie.Need-add-result-2 Inv-loop μ-loop
-add-result-2 c = search needs
-
-same-length-2 : tie.Need-same-length-2 Inv-loop μ-loop
-same-length-2 c = search needs
-
-returns-2 : tie.Need-returns-2 Inv-loop μ-loop
-returns-2 c = search needs
+returns c = search (needs, put-ends)
 
 pub put-spec : {M : Type 1} → statement M
 put-spec =
@@ -66,7 +58,4 @@ put-spec =
     loop-again
     add-result
     same-length
-    returns
-    add-result-2
-    same-length-2
-    returns-2)
+    returns)

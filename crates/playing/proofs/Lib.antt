@@ -1,0 +1,3 @@
+mod Laws
+mod Walks
+pub mod Parts
