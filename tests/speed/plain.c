@@ -46,45 +46,95 @@ static bool ring_holds(const struct ring *r, unsigned size)
     return r->size == size && r->head < size && r->count <= size;
 }
 
+/* OTP is up in INIT alone; DRDY says whether RX is empty, and is 0 over the level. */
 static bool registers_hold(const struct bridge *b)
 {
     return (b->spictrl & ~0xFF01u) == 0 && (b->diagmask & ~0x0B01u) == 0 && b->tx_level < TX_SIZE
-        && b->rx_level < RX_SIZE;
+        && b->rx_level < RX_SIZE && b->flag.otp == (b->state == INIT)
+        && (b->rx.count == 0 ? b->drdy : !(b->rx.count > b->rx_level && b->drdy));
 }
 
-/* The words that places not yet begun will take; -1 where a place breaks a rule. */
-static long waiting_words(const struct bridge *b)
+/* As it was queued, with something to send. */
+static bool waits(const struct place *p)
 {
+    return p->words + p->ends > 0 && !p->compare && !p->check_error && !p->sent && !p->read && p->sent_crc == 0xFFFF
+        && p->read_crc == 0xFFFF;
+}
+
+/* Sent, and its reading awaited: another has begun behind it. */
+static bool awaits(const struct place *p)
+{
+    return p->sent && !p->read && p->words > 0;
+}
+
+/* The youngest that has begun is not one to be freed. */
+static bool unfinished(const struct place *p)
+{
+    return !(p->sent && (p->read || p->words == 0));
+}
+
+/* Those that have begun stand first. How many they are, and the words that the others will take. */
+static bool places_hold(const struct bridge *b, unsigned *begun, long *waiting)
+{
+    unsigned n = 0;
     long sum = 0;
     if (b->places > PLACES)
-        return -1;
-    for (unsigned i = 0; i < PLACES; i++)
-        if (b->place[i].words > WORDS_MOST || b->place[i].ends > ENDS_MOST)
-            return -1;
+        return false;
+    while (n < b->places && b->place[n].begun)
+        n++;
     for (unsigned i = 0; i < b->places; i++) {
         const struct place *p = &b->place[i];
-        if (p->begun)
-            continue;
-        if (p->words + p->ends == 0)
-            return -1;
-        sum += p->words;
+        if (p->words > WORDS_MOST || p->ends > ENDS_MOST)
+            return false;
+        if (i < n) {
+            if (i + 1 < n ? !awaits(p) : !unfinished(p))
+                return false;
+        } else {
+            if (p->begun || !waits(p))
+                return false;
+            sum += p->words;
+        }
     }
-    return sum;
+    *begun = n;
+    *waiting = sum;
+    return true;
 }
 
-static bool sender_holds(const struct sender *s)
+/* The sender is at the youngest place that has begun, until that is sent, or at an END that belongs to none. */
+static bool sender_holds(const struct bridge *b, unsigned begun)
 {
-    return s->bit <= GROUP_BITS && s->words_left <= WORDS_MOST && s->ones_left <= END_BITS * (ENDS_MOST + 1u);
+    const struct sender *s = &b->sender;
+    bool busy = begun > 0 && !b->place[begun - 1].sent;
+    if (s->place != (busy ? (int)begun - 1 : -1))
+        return false;
+    switch (s->mode) {
+    case SEND_IDLE:
+        return !busy;
+    case SEND_WORDS:
+        return busy && s->bit < GROUP_BITS && s->words_left > 0 && s->words_left <= b->place[begun - 1].words;
+    default:
+        return s->ones_left > 0 && s->ones_left <= END_BITS * (busy ? 1 + b->place[begun - 1].ends : 1);
+    }
 }
 
-static bool reader_holds(const struct reader *r)
+/* A command being read belongs to the oldest place or to none, and is stored only where that place asks for it. */
+static bool reader_holds(const struct bridge *b, unsigned begun)
 {
-    return r->mode == READ_IDLE || (r->bit <= GROUP_BITS && r->run < END_BITS);
+    const struct reader *r = &b->reader;
+    const struct place *oldest = &b->place[0];
+    if (r->mode == READ_IDLE)
+        return r->place == -1;
+    if (r->bit > GROUP_BITS || r->run >= END_BITS)
+        return false;
+    if (r->place != -1 && !(r->place == 0 && begun > 0 && oldest->words > 0 && !oldest->read))
+        return false;
+    return !r->storing || (r->place == 0 && oldest->store && !b->flag.rx_ovf && !b->flag.rx_uvf);
 }
 
 static bool forward_holds(const struct frame *f)
 {
-    bool due = named_crc(&f->cmd) || f->released || f->blocked || f->came < f->cmd.data || f->cmd.data == 0;
+    bool nothing = f->cmd.data == 0 && f->cmd.ends == 0;
+    bool due = named_crc(&f->cmd) || f->released || f->blocked || f->came < f->cmd.data || nothing;
     bool own = f->released || f->blocked || f->stored == f->came;
     return f->came <= f->cmd.data && f->cmd.data <= WORDS_MOST && f->cmd.ends <= ENDS_MOST && own && due
         && !(f->released && named_crc(&f->cmd));
@@ -124,19 +174,19 @@ static bool frame_holds(const struct frame *f)
     }
 }
 
-/* Every word of TX has a command that will take it, and only the youngest place can starve. */
-static bool ledger_holds(const struct bridge *b)
+/* Every word of TX has a command that will take it, and only the youngest place can starve. An open forward is
+   marked as blocked while a blocking flag is up. */
+static bool ledger_holds(const struct bridge *b, long waiting)
 {
     const struct frame *f = &b->frame;
     const struct sender *s = &b->sender;
     bool forward = f->phase == COLLECT && is_forward(&f->cmd);
+    if (forward && !f->blocked && blocking_flag(b))
+        return false;
     bool owes = forward && f->released && !f->blocked;
     long to_come = owes ? (long)f->cmd.data - (long)f->came : 0;
     long mine = forward && !f->released && !f->blocked ? (long)f->stored : 0;
     long sending_now = s->mode == SEND_WORDS ? (long)s->words_left - (s->bit > 0) : 0;
-    long waiting = waiting_words(b);
-    if (waiting < 0)
-        return false;
     bool waits = b->places > 0 && !b->place[b->places - 1].begun;
     long last = waits ? (long)b->place[b->places - 1].words : sending_now;
     return (long)b->tx.count + to_come == sending_now + waiting + mine && to_come <= last;
@@ -144,8 +194,11 @@ static bool ledger_holds(const struct bridge *b)
 
 static bool rules_hold(const struct bridge *b)
 {
-    return ring_holds(&b->tx, TX_SIZE) && ring_holds(&b->rx, RX_SIZE) && registers_hold(b) && sender_holds(&b->sender)
-        && reader_holds(&b->reader) && frame_holds(&b->frame) && ledger_holds(b);
+    unsigned begun;
+    long waiting;
+    return ring_holds(&b->tx, TX_SIZE) && ring_holds(&b->rx, RX_SIZE) && registers_hold(b)
+        && places_hold(b, &begun, &waiting) && sender_holds(b, begun) && reader_holds(b, begun)
+        && frame_holds(&b->frame) && ledger_holds(b, waiting);
 }
 
 /* One event as the bridge's `step` does it: the record rules first. */

@@ -27,6 +27,9 @@ const STORES: u16 = 1;
 
 const BROKEN: u16 = 2;
 
+// A command word where no frame is open.
+pub const WORD: u16 = 0xB007;
+
 // No cell is 0, and no cell of TX is one of RX.
 const TX_SEAL: u16 = 0xA400;
 
@@ -112,10 +115,9 @@ fn judged(call: &[u8], left: Left, want: u16) -> bool {
     false
 }
 
-// Its word is a command word where no frame is open.
 fn by_host(record: Bridge, tx: &mut [u16], rx: &mut [u16], want: u16) -> bool {
     let power = judged(b"power", stepped(record, tx, rx, Event::Power(true)), want);
-    power & judged(b"word", stepped(record, tx, rx, Event::Word(0xB007)), want)
+    power & judged(b"word", stepped(record, tx, rx, Event::Word(WORD)), want)
 }
 
 fn by_line(record: Bridge, tx: &mut [u16], rx: &mut [u16], want: u16) -> bool {
@@ -217,6 +219,31 @@ pub fn taken(tally: Tally, name: &[u8], record: Bridge) -> Tally {
     let mut rx = [0u16; 256];
     print_name(name);
     let right = by_all(record, &mut tx, &mut rx, TAKEN);
+    print_verdict(TAKEN, right);
+    counted(tally, TAKEN, right)
+}
+
+// The word's note, nothing said, and this record and both stores left.
+fn word_leaves(record: Bridge, tx: &mut [u16], rx: &mut [u16], want: u16, after: Bridge) -> bool {
+    let answer = bridge::step(record, tx, rx, Event::Word(WORD));
+    let note = answer.note;
+    let said = (state::number(note) == want) & (answer.sdo == 0xFFFF) & answer.sout;
+    said & same::same(after, answer.state) & as_lent(tx, rx)
+}
+
+// A record that obeys all rules, with the note of a host word and all that it leaves.
+pub fn word(tally: Tally, name: &[u8], record: Bridge, note: u16, after: Bridge) -> Tally {
+    let mut tx = [0u16; 512];
+    let mut rx = [0u16; 256];
+    print_name(name);
+    fill_both(&mut tx, &mut rx);
+    let left = word_leaves(record, &mut tx, &mut rx, note, after);
+    let right = left & by_all(record, &mut tx, &mut rx, TAKEN);
+    if right {
+        print(b"word note ");
+        print_number(note as u64);
+        print(b", ");
+    }
     print_verdict(TAKEN, right);
     counted(tally, TAKEN, right)
 }

@@ -1,7 +1,10 @@
 // Tries notes 1 and 2 (01 Notes) as a caller: stores of wrong lengths, and each rule of docs/RECORD-RULES.md broken alone, just past its
-// limit, beside the same record at the limit. A refusal has to leave the state and both stores as lent.
+// limit, beside the same record at the limit. A refusal has to leave the state and both stores as lent. Where a broken record is one that a
+// step would mend, or answer otherwise than 01 says, the good one's word is tried beside it (notes 4 and 5).
 mod cases;
 mod frames;
+mod pieces;
+mod places;
 mod records;
 mod same;
 
@@ -10,12 +13,11 @@ use cases::broken;
 use cases::lengths;
 use cases::taken;
 use events::Event;
-use line::Piece;
-use records::ends_left;
-use records::first_place;
-use records::last_place;
-use records::under_way;
-use records::words_left;
+use records::drdy;
+use records::in_mode;
+use records::queued;
+use records::waiting;
+use registers::Mode;
 use state::Bridge;
 
 fn event(start: Bridge, tx: &mut [u16], rx: &mut [u16], event: Event) -> Bridge {
@@ -89,12 +91,16 @@ fn both_wrong(tally: Tally, good: Bridge) -> Tally {
     lengths(t, b"TX 511, RX 255, RX head 256", bad, 511, 255)
 }
 
+// TX's words wait.
 fn rings(tally: Tally, start: Bridge) -> Tally {
-    let mut t = taken(tally, b"TX head 511", records::tx(start, 511, 0));
-    t = broken(t, b"TX head 512", records::tx(start, 512, 0));
-    t = broken(t, b"TX head 65535", records::tx(start, 65535, 0));
-    t = taken(t, b"TX count 512", records::tx(start, 0, 512));
-    t = broken(t, b"TX count 513", records::tx(start, 0, 513));
+    let half = queued(256, 0);
+    let full = waiting(start, half, half, 512);
+    let over = waiting(start, half, queued(257, 0), 513);
+    let mut t = taken(tally, b"TX head 511", records::tx_head(start, 511));
+    t = broken(t, b"TX head 512", records::tx_head(start, 512));
+    t = broken(t, b"TX head 65535", records::tx_head(start, 65535));
+    t = taken(t, b"TX count 512", full);
+    t = broken(t, b"TX count 513", over);
     t = taken(t, b"RX head 255", records::rx(start, 255, 0));
     t = broken(t, b"RX head 256", records::rx(start, 256, 0));
     t = broken(t, b"RX head 65535", records::rx(start, 65535, 0));
@@ -140,86 +146,43 @@ fn levels(tally: Tally, start: Bridge) -> Tally {
     broken(t, b"RXFFLVL bit 15", records::levels(start, 0, 0x8000))
 }
 
-fn queue(tally: Tally, start: Bridge) -> Tally {
-    let mut t = taken(tally, b"begun 1 of 1", records::queue(start, 1, 1));
-    t = broken(t, b"begun 1 of 0", records::queue(start, 1, 0));
-    t = taken(t, b"begun 8 of 8", records::queue(start, 8, 8));
-    t = broken(t, b"begun 9 of 8", records::queue(start, 9, 8));
-    t = taken(t, b"begun 0 of 8", records::queue(start, 0, 8));
-    t = broken(t, b"begun 0 of 9", records::queue(start, 0, 9));
-    t = broken(t, b"begun 8 of 9", records::queue(start, 8, 9));
-    t = broken(t, b"begun 9 of 9", records::queue(start, 9, 9));
-    broken(t, b"begun 0 of 65535", records::queue(start, 0, 65535))
+// "Bad OTP stays in INIT", and nothing else is there.
+fn modes(tally: Tally, start: Bridge) -> Tally {
+    let mut t = taken(tally, b"NORMAL", in_mode(start, Mode::Normal, false));
+    t = broken(t, b"NORMAL, OTP", in_mode(start, Mode::Normal, true));
+    t = taken(t, b"INIT, OTP", in_mode(start, Mode::Init, true));
+    t = broken(t, b"INIT, no OTP", in_mode(start, Mode::Init, false));
+    t = taken(t, b"FAILSAFE", in_mode(start, Mode::Failsafe, false));
+    broken(t, b"FAILSAFE, OTP", in_mode(start, Mode::Failsafe, true))
 }
 
-fn places(tally: Tally, start: Bridge) -> Tally {
-    let mut t = taken(
-        tally,
-        b"first place 4096 words",
-        first_place(start, 4096, 0),
-    );
-    t = broken(t, b"first place 4097 words", first_place(start, 4097, 0));
-    t = taken(t, b"first place 127 ENDs", first_place(start, 0, 127));
-    t = broken(t, b"first place 128 ENDs", first_place(start, 0, 128));
-    t = taken(t, b"last place 4096 words", last_place(start, 4096, 0));
-    t = broken(t, b"last place 4097 words", last_place(start, 4097, 0));
-    t = taken(t, b"last place 127 ENDs", last_place(start, 0, 127));
-    broken(t, b"last place 128 ENDs", last_place(start, 0, 128))
-}
-
-fn pieces(tally: Tally, start: Bridge) -> Tally {
-    let word = Piece::WordPiece(0xAAF0);
-    let mut t = taken(tally, b"pause, 0 gone", under_way(start, Piece::Pause, 0));
-    t = broken(t, b"pause, 1 gone", under_way(start, Piece::Pause, 1));
+// "DRDY is 1 if RX is empty, else 0 if its count exceeds RXFFLVL .. else as before"
+fn drdys(tally: Tally, start: Bridge) -> Tally {
+    let mut t = taken(tally, b"RX empty, DRDY 1", drdy(start, 0, 0, true));
+    t = broken(t, b"RX empty, DRDY 0", drdy(start, 0, 0, false));
+    t = taken(t, b"RX 1 of level 1, DRDY 1", drdy(start, 1, 1, true));
+    t = taken(t, b"RX 1 of level 1, DRDY 0", drdy(start, 1, 1, false));
+    t = taken(t, b"RX 1 of level 0, DRDY 0", drdy(start, 0, 1, false));
+    t = broken(t, b"RX 1 of level 0, DRDY 1", drdy(start, 0, 1, true));
     t = taken(
         t,
-        b"start bit, 1 gone",
-        under_way(start, Piece::StartBit, 1),
+        b"RX 256 of level 255, DRDY 0",
+        drdy(start, 255, 256, false),
     );
-    t = broken(
+    broken(
         t,
-        b"start bit, 2 gone",
-        under_way(start, Piece::StartBit, 2),
-    );
-    t = taken(t, b"word, 17 gone", under_way(start, word, 17));
-    t = broken(t, b"word, 18 gone", under_way(start, word, 18));
-    t = taken(t, b"END, 18 gone", under_way(start, Piece::EndPiece, 18));
-    broken(t, b"END, 19 gone", under_way(start, Piece::EndPiece, 19))
-}
-
-// TX holds 512 words at most, so that what is left above that is still to come: an open FWD_WR of 4,096 words, released.
-fn left(tally: Tally, start: Bridge) -> Tally {
-    let most = records::forward(false, 4096, 0);
-    let to_come = records::released(start, most, 512, 0);
-    let one_more = records::released(start, most, 511, 0);
-    let mut t = taken(tally, b"4096 words left", words_left(to_come, 4096, 512));
-    t = broken(t, b"4097 words left", words_left(one_more, 4097, 512));
-    t = taken(t, b"128 ENDs left", ends_left(start, 128));
-    broken(t, b"129 ENDs left", ends_left(start, 129))
-}
-
-fn reader(tally: Tally, start: Bridge) -> Tally {
-    let mut t = taken(tally, b"group of 17 bits", records::group(start, 17, 0));
-    t = broken(t, b"group of 18 bits", records::group(start, 18, 0));
-    t = taken(t, b"group with 17 ones", records::group(start, 0, 17));
-    t = broken(t, b"group with 18 ones", records::group(start, 0, 18));
-    t = taken(t, b"lost with 17 ones", records::lost(start, 17));
-    broken(t, b"lost with 18 ones", records::lost(start, 18))
-}
-
-fn sending(tally: Tally, start: Bridge) -> Tally {
-    let mut t = queue(tally, start);
-    t = places(t, start);
-    t = pieces(t, start);
-    t = left(t, start);
-    reader(t, start)
+        b"RX 256 of level 255, DRDY 1",
+        drdy(start, 255, 256, true),
+    )
 }
 
 fn control(tally: Tally, start: Bridge) -> Tally {
     let mut t = rings(tally, start);
     t = spictrl(t, start);
     t = diagmask(t, start);
-    levels(t, start)
+    t = levels(t, start);
+    t = modes(t, start);
+    drdys(t, start)
 }
 
 fn main() {
@@ -229,7 +192,9 @@ fn main() {
     t = both_wrong(t, good);
     t = taken(t, b"idle", start);
     t = control(t, start);
-    t = sending(t, start);
+    t = places::places(t, start);
+    t = pieces::sends(t, start);
+    t = pieces::hears(t, start);
     t = frames::frames(t, start);
     t = broken(t, b"far past every limit", records::far(start));
     cases::print_tally(t);

@@ -1,8 +1,12 @@
-// Records made of a good one, `start`, idle with empty stores. The words that a field asks for are put where they keep the sum, so that a
+// Records made of a good one, `start`, idle with empty stores. What the rules ask beside the field that is tried is put right, so that a
 // record breaks the rule of that field only.
 use command::Command;
 use line::Ear;
 use line::Piece;
+use registers::Control;
+use registers::Flag;
+use registers::Flags;
+use registers::Mode;
 use state::Bridge;
 use state::Frame;
 use state::Phase;
@@ -13,20 +17,34 @@ use state::Receiving;
 use state::Reply;
 use state::Sender;
 use state::Sending;
+ghost use Prim.Native.Nat.{_<_};
 
-// TX's words are the sender's to take.
-pub fn tx(start: Bridge, head: u16, count: u16) -> Bridge {
+pub fn tx_head(start: Bridge, head: u16) -> Bridge {
     let mut b = start;
     b.sending.tx.head = head;
-    b.sending.tx.count = count;
-    b.sending.sender.left = count;
     b
 }
 
+pub fn tx_holds(start: Bridge, count: u16) -> Bridge {
+    let mut b = start;
+    b.sending.tx.count = count;
+    b
+}
+
+// DRDY says whether RX is empty.
 pub fn rx(start: Bridge, head: u16, count: u16) -> Bridge {
     let mut b = start;
     b.receiving.rx.head = head;
     b.receiving.rx.count = count;
+    let empty = count == 0;
+    b.control.drdy = empty;
+    b
+}
+
+pub fn drdy(start: Bridge, level: u16, count: u16, drdy: bool) -> Bridge {
+    let mut b = rx(start, 0, count);
+    b.control.regs.rxfflvl = level;
+    b.control.drdy = drdy;
     b
 }
 
@@ -49,10 +67,47 @@ pub fn levels(start: Bridge, txfflvl: u16, rxfflvl: u16) -> Bridge {
     b
 }
 
-pub fn place(words: u16, ends: u16) -> Place {
-    let mut p = Place::NONE;
-    p.words = words;
-    p.ends = ends;
+fn with_flags(start: Bridge, mode: Mode, flags: Flags) -> Bridge {
+    let regs = start.control.regs;
+    let control = Control {
+        mode: mode,
+        drdy: start.control.drdy,
+        flags: flags,
+        regs: regs,
+    };
+    let mut b = start;
+    b.control = control;
+    b
+}
+
+pub fn in_mode(start: Bridge, mode: Mode, otp: bool) -> Bridge {
+    let mut flags = start.control.flags;
+    flags.otp = otp;
+    with_flags(start, mode, flags)
+}
+
+pub fn raised(start: Bridge, flag: Flag) -> Bridge {
+    let control = start.control;
+    let mode = control.mode;
+    let flags = registers::raise(control.flags, flag);
+    with_flags(start, mode, flags)
+}
+
+// As it was queued. What is read back goes to RX.
+pub fn queued(words: u16, ends: u16) -> Place {
+    state::new_place(words, ends, true)
+}
+
+// Its reading is awaited.
+pub fn sent(words: u16, ends: u16) -> Place {
+    let mut p = queued(words, ends);
+    p.sent = true;
+    p
+}
+
+pub fn read(place: Place) -> Place {
+    let mut p = place;
+    p.read = true;
     p
 }
 
@@ -69,58 +124,55 @@ fn with_queue(start: Bridge, queue: Queue) -> Bridge {
     b
 }
 
-// Each place has an END to send.
-pub fn queue(start: Bridge, begun: u16, used: u16) -> Bridge {
-    let places = [place(0, 1); 8];
+// Eight places alike.
+pub fn queue(start: Bridge, place: Place, begun: u16, used: u16) -> Bridge {
     with_queue(
         start,
         Queue {
-            places: places,
+            places: [place; 8],
             used: used,
             begun: begun,
         },
     )
 }
 
-// Places that are not in use.
-pub fn first_place(start: Bridge, words: u16, ends: u16) -> Bridge {
+pub fn put(start: Bridge, i: usize, place: Place) -> Bridge
+    requires { ⌜ i < 8 ⌝ }
+{
     let mut queue = start.sending.queue;
-    queue.places[0] = place(words, ends);
+    queue.places[i] = place;
     with_queue(start, queue)
 }
 
-pub fn last_place(start: Bridge, words: u16, ends: u16) -> Bridge {
-    let mut queue = start.sending.queue;
-    queue.places[7] = place(words, ends);
-    with_queue(start, queue)
+// Two places, the older first, and TX's words.
+fn two(start: Bridge, older: Place, younger: Place, begun: u16, count: u16) -> Bridge {
+    let both = put(queue(start, younger, begun, 2), 0, older);
+    tx_holds(both, count)
 }
 
-// Two places that wait, the older first, and TX's words.
 pub fn waiting(start: Bridge, older: Place, younger: Place, count: u16) -> Bridge {
-    let mut queue = start.sending.queue;
-    queue.places[0] = older;
-    queue.places[1] = younger;
-    queue.used = 2;
-    let mut b = with_queue(start, queue);
-    b.sending.tx.count = count;
-    b
+    two(start, older, younger, 0, count)
 }
 
-// The last place waits, the others have begun.
+pub fn both_begun(start: Bridge, older: Place, younger: Place) -> Bridge {
+    two(start, older, younger, 2, 0)
+}
+
+// The last place waits, the reading of the others is awaited.
 pub fn last_waiting(start: Bridge, last: Place, count: u16) -> Bridge {
-    let mut b = last_place(queue(start, 7, 8), last.words, last.ends);
-    b.sending.tx.count = count;
-    b
+    tx_holds(put(queue(start, sent(1, 0), 7, 8), 7, last), count)
 }
 
-pub fn under_way(start: Bridge, piece: Piece, gone: u16) -> Bridge {
-    let tx = start.sending.tx;
+// TX holds the words left.
+pub fn at_piece(start: Bridge, piece: Piece, gone: u16, left: u16, ends: u16) -> Bridge {
     let queue = start.sending.queue;
+    let mut tx = start.sending.tx;
+    tx.count = left;
     let sender = Sender {
         piece: piece,
         gone: gone,
-        left: 0,
-        ends: 0,
+        left: left,
+        ends: ends,
     };
     let sending = Sending {
         tx: tx,
@@ -132,26 +184,18 @@ pub fn under_way(start: Bridge, piece: Piece, gone: u16) -> Bridge {
     b
 }
 
-pub fn ends_left(start: Bridge, ends: u16) -> Bridge {
-    let mut b = start;
-    b.sending.sender.ends = ends;
-    b
+// One place, begun, and END half sent: it is under way where it is not sent.
+pub fn in_end(start: Bridge, place: Place) -> Bridge {
+    at_piece(queue(start, place, 1, 1), Piece::EndPiece, 9, 0, 0)
 }
 
-pub fn words_left(start: Bridge, left: u16, count: u16) -> Bridge {
-    let mut b = start;
-    b.sending.sender.left = left;
-    b.sending.tx.count = count;
-    b
-}
-
-fn hearing(start: Bridge, ear: Ear) -> Bridge {
+pub fn hearing(start: Bridge, ear: Ear, belongs: bool, storing: bool, stored: bool) -> Bridge {
     let rx = start.receiving.rx;
     let reader = Reader {
         ear: ear,
-        belongs: false,
-        storing: false,
-        stored: false,
+        belongs: belongs,
+        storing: storing,
+        stored: stored,
     };
     let receiving = Receiving {
         rx: rx,
@@ -162,20 +206,16 @@ fn hearing(start: Bridge, ear: Ear) -> Bridge {
     b
 }
 
-pub fn group(start: Bridge, bits: u16, ones: u16) -> Bridge {
-    hearing(
-        start,
-        Ear::Group {
-            value: 0,
-            bits: bits,
-            ones: ones,
-        },
-    )
+pub fn group(bits: u16, ones: u16) -> Ear {
+    Ear::Group {
+        value: 0,
+        bits: bits,
+        ones: ones,
+    }
 }
 
-pub fn lost(start: Bridge, ones: u16) -> Bridge {
-    hearing(start, Ear::Lost { ones: ones })
-}
+// Of the words so far in an open frame.
+const CRC: u16 = 0x1D0F;
 
 fn in_phase(start: Bridge, phase: Phase) -> Bridge {
     let mut b = start;
@@ -200,7 +240,7 @@ fn collecting(
         Phase::Collecting {
             command: command,
             got: got,
-            crc: 0x1D0F,
+            crc: CRC,
             mine: mine,
             released: released,
             blocked: blocked,
@@ -217,7 +257,7 @@ pub fn forward(crc: bool, words: u16, ends: u16) -> Command {
     }
 }
 
-pub fn write(address: u16, count: u16) -> Command {
+pub fn register_write(address: u16, count: u16) -> Command {
     Command::RegisterWrite {
         crc: true,
         address: address,
@@ -225,7 +265,7 @@ pub fn write(address: u16, count: u16) -> Command {
     }
 }
 
-pub fn read(address: u16, count: u16) -> Command {
+pub fn register_read(address: u16, count: u16) -> Command {
     Command::RegisterRead {
         crc: true,
         address: address,
@@ -258,6 +298,27 @@ pub fn blocked(start: Bridge, command: Command, got: u16, mine: u16) -> Bridge {
     b
 }
 
+// The same with a word more, that was counted and dropped.
+pub fn dropped(start: Bridge, command: Command, got: u16, word: u16) -> Bridge {
+    let mut b = in_phase(
+        start,
+        Phase::Collecting {
+            command: command,
+            got: got,
+            crc: crc16::crc_word(CRC, word),
+            mine: 0,
+            released: false,
+            blocked: true,
+        },
+    );
+    b.clock.mark = start.clock.reading;
+    b
+}
+
+pub fn discarding(start: Bridge) -> Bridge {
+    in_phase(start, Phase::Discarding)
+}
+
 // Released, and then blocked by a transmit clear: nothing is to come.
 pub fn cleared(start: Bridge, command: Command, got: u16) -> Bridge {
     collecting(start, command, got, 0, true, true)
@@ -268,12 +329,12 @@ pub fn answering(start: Bridge, reply: Reply) -> Bridge {
         start,
         Phase::Answering {
             reply: reply,
-            crc: 0x1D0F,
+            crc: CRC,
         },
     )
 }
 
-pub fn registers(address: u16, left: u16) -> Reply {
+pub fn register_answer(address: u16, left: u16) -> Reply {
     Reply::Registers {
         address: address,
         left: left,
@@ -282,14 +343,9 @@ pub fn registers(address: u16, left: u16) -> Reply {
 
 // Far past every limit: no sum of the test may wrap.
 pub fn far(start: Bridge) -> Bridge {
-    let most = place(65535, 65535);
-    let queue = Queue {
-        places: [most; 8],
-        used: 65535,
-        begun: 0,
-    };
+    let most = queued(65535, 65535);
     let mut b = released(
-        with_queue(start, queue),
+        queue(start, most, 0, 65535),
         forward(false, 65535, 65535),
         65535,
         65535,

@@ -2,7 +2,7 @@
 mod frames;
 mod marks;
 mod places;
-mod sender;
+mod sending;
 
 use state::Bridge;
 use state::Phase;
@@ -72,7 +72,7 @@ pub fn sound(bridge: Bridge) -> bool
         & ring_sound(receiving.rx, 256)
         & marks::control_sound(control, receiving.rx.count)
         & queue_sound(sending.queue)
-        & sender::sender_sound(sending.sender, sending.queue)
+        & sending::sender_sound(sending.sender, sending.queue)
         & marks::reader_sound(reader, sending.queue, control.flags)
         & frames::phase_sound(phase)
         & flags_sound(control.flags, phase)

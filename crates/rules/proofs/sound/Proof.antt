@@ -11,7 +11,7 @@ use Rattle.rules.proofs.marks.reader_sound.Reads as reader-sound-reads
 use Rattle.rules.proofs.places.words_waiting.Reads as words-waiting-reads
 use Rattle.rules.proofs.queue_sound.Reads as queue-sound-reads
 use Rattle.rules.proofs.ring_sound.Reads as ring-sound-reads
-use Rattle.rules.proofs.sender.sender_sound.Reads as sender-sound-reads
+use Rattle.rules.proofs.sending.sender_sound.Reads as sender-sound-reads
 
 words-waiting-requires : tie.Need-words-waiting-requires
 words-waiting-requires c κs = search needs

@@ -1,9 +1,9 @@
 use borrow.Author.Needs.{needs}
 use Rattle.base.specs.Pick.{picks}
-use Rattle.rules.proofs.sender.ends_allowed.Statement.{statement}
-use Rattle.rules.proofs.sender.ends_allowed.Tie as tie
-use Rattle.rules.proofs.sender.ends_allowed.Reads as reads
-use Rattle.rules.proofs.sender.ends_allowed.Lts as lts
+use Rattle.rules.proofs.sending.ends_allowed.Statement.{statement}
+use Rattle.rules.proofs.sending.ends_allowed.Tie as tie
+use Rattle.rules.proofs.sending.ends_allowed.Reads as reads
+use Rattle.rules.proofs.sending.ends_allowed.Lts as lts
 
 returns : tie.Need-returns
 returns c = search (needs, picks)

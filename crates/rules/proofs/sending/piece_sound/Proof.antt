@@ -1,11 +1,11 @@
 use borrow.Author.Needs.{needs}
 use Rattle.rules.specs.Sound.{pieceSound}
 use Rattle.rules.proofs.Laws.{to-piece, end-told}
-use Rattle.rules.proofs.sender.piece_sound.Statement.{statement}
-use Rattle.rules.proofs.sender.piece_sound.Tie as tie
-use Rattle.rules.proofs.sender.piece_sound.Reads as reads
-use Rattle.rules.proofs.sender.piece_sound.Lts as lts
-use Rattle.rules.proofs.sender.ends_allowed.Reads as ends-allowed-reads
+use Rattle.rules.proofs.sending.piece_sound.Statement.{statement}
+use Rattle.rules.proofs.sending.piece_sound.Tie as tie
+use Rattle.rules.proofs.sending.piece_sound.Reads as reads
+use Rattle.rules.proofs.sending.piece_sound.Lts as lts
+use Rattle.rules.proofs.sending.ends_allowed.Reads as ends-allowed-reads
 
 enum-told : tie.Need-enum-told
 enum-told c = search needs

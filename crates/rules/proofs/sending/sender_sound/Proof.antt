@@ -1,10 +1,10 @@
 use borrow.Author.Needs.{needs}
-use Rattle.rules.proofs.sender.sender_sound.Statement.{statement}
-use Rattle.rules.proofs.sender.sender_sound.Tie as tie
-use Rattle.rules.proofs.sender.sender_sound.Reads as reads
-use Rattle.rules.proofs.sender.sender_sound.Lts as lts
-use Rattle.rules.proofs.sender.before.Reads as before-reads
-use Rattle.rules.proofs.sender.piece_sound.Reads as piece-sound-reads
+use Rattle.rules.proofs.sending.sender_sound.Statement.{statement}
+use Rattle.rules.proofs.sending.sender_sound.Tie as tie
+use Rattle.rules.proofs.sending.sender_sound.Reads as reads
+use Rattle.rules.proofs.sending.sender_sound.Lts as lts
+use Rattle.rules.proofs.sending.before.Reads as before-reads
+use Rattle.rules.proofs.sending.piece_sound.Reads as piece-sound-reads
 use Rattle.state.proofs.is_idle.Reads as is-idle-reads
 use Rattle.state.proofs.is_under_way.Reads as is-under-way-reads
 use Rattle.state.proofs.place_at.Reads as place-at-reads
