@@ -19,7 +19,7 @@ use Rattle.state.specs.Queue.{noPlace, newPlace, waiting, wordsOf, moved, freed
 use Rattle.state.specs.Rings.{written}
 use Rattle.state.specs.declared.Bridge.{Bridge}
 use Rattle.state.specs.declared.Note.the-variants.{WrongStores, BrokenRecord}
-use Rattle.rules.specs.Sound.{roleSound, slotSound, pieceSound, earSound, marksSound, otpSound, isUnmarked}
+use Rattle.rules.specs.Sound.{roleSound, slotSound, slotsBelow, pieceSound, earSound, marksSound, otpSound, isUnmarked}
 use Rattle.sender.specs.Sender.{choose, bitSent, wordSent, queueSent, senderAfter, advanced, placeSent, finished, isStarve, isStart, sentBy, tickSender}
 use Rattle.reader.specs.Reader.{takenBy, tickReader}
 use Rattle.host.specs.Plan.{settled}
@@ -43,7 +43,7 @@ queuedOne words ends = record {
 }
 
 unfoldable pub drainedOne : ℕ → ℕ → ℕ → ℕ → End
-unfolding queuedOne val odd bit highFirst pick shift crcBit crcBits crcWord checkBit pieceLength wordBit pieceBit hear raised blocking isNormal powerUpControl table resetRegs cleared powerUpFlags mineOf toCome phaseSound powerUp noPlace newPlace waiting wordsOf moved freed returned written roleSound slotSound pieceSound earSound marksSound otpSound isUnmarked choose bitSent wordSent queueSent senderAfter advanced placeSent finished isStarve isStart sentBy tickSender takenBy tickReader settled same markAfter watched starvedFlags flagsSent phaseAfter controlTicked tickNote tickEnds tickHears ticked reacted turned turn runOf drain
+unfolding queuedOne val odd bit highFirst pick shift crcBit crcBits crcWord checkBit pieceLength wordBit pieceBit hear raised blocking isNormal powerUpControl table resetRegs cleared powerUpFlags mineOf toCome phaseSound powerUp noPlace newPlace waiting wordsOf moved freed returned written roleSound slotSound slotsBelow pieceSound earSound marksSound otpSound isUnmarked choose bitSent wordSent queueSent senderAfter advanced placeSent finished isStarve isStart sentBy tickSender takenBy tickReader settled same markAfter watched starvedFlags flagsSent phaseAfter controlTicked tickNote tickEnds tickHears ticked reacted turned turn runOf drain
 drainedOne words ends cells budget = drain ours (queuedOne words ends) (replicate cells 0xAAF0) (replicate 256 0) budget
 
 pub one-word : drainedOne 1 0 512 100 .drained .ticks ≡ 36

@@ -18,7 +18,7 @@ use Rattle.state.specs.Power.{powerUp, badControl, powerUpBad}
 use Rattle.state.specs.Queue.{noPlace, newPlace, waiting, wordsOf, moved, freed, firstUnread, claimed, returned}
 use Rattle.state.specs.Rings.{written, ringAfter}
 use Rattle.state.specs.Sending.{owing, stored, done}
-use Rattle.rules.specs.Sound.{roleSound, slotSound, pieceSound, earSound, marksSound, otpSound, isUnmarked}
+use Rattle.rules.specs.Sound.{roleSound, slotSound, slotsBelow, pieceSound, earSound, marksSound, otpSound, isUnmarked}
 use Rattle.sender.specs.Sender.{choose, bitSent, wordSent, queueSent, senderAfter, advanced, finished, isStarve, isStart, sentBy, tickSender, placeSent}
 use Rattle.reader.specs.Reader.{wordRead, errorRead, endRead, wordTaken, atEnd, ended, takenBy, tickReader, began}
 use Rattle.host.specs.Forward.{asksStore, guard, mineAfter, enqueues, clears, forwarded, forwardWord, forwardBegun, faulted}
@@ -59,7 +59,7 @@ opening = frame (0xB007 ∷ 0x8000 ∷ [])
 
 -- The run meets the premises; at its end all is sent.
 unfoldable meets : List Event → Bool
-unfolding ticks frame opening val odd bit highFirst pick shift crcBit crcBits crcWord crcFrom crcOf write registerWrite rows byNumber decodeOurs raised blocking isNormal powerUpControl writeStatus writeMasked writeOf checkBit pieceLength wordBit pieceBit runOn shiftIn atCheck inGroup inLost hear dataWords mineOf owedBy toCome collectSound replySound phaseSound powerUp noPlace newPlace waiting wordsOf moved freed firstUnread claimed returned written ringAfter stored done roleSound slotSound pieceSound earSound marksSound otpSound isUnmarked choose bitSent wordSent queueSent senderAfter advanced finished isStarve isStart sentBy tickSender wordRead errorRead endRead wordTaken atEnd ended takenBy tickReader asksStore guard mineAfter enqueues clears forwarded forwardWord forwardBegun opened isQuiet isTransmitClear isReceiveClear isRefused withWrite registerWord dataWord wrongCrc forwardClosed crcDue plannedIn planned releasedIn clearedAway received settled concluded performed powered isForward blockedIn same markAfter watched starvedFlags flagsSent phaseAfter controlTicked tickEnds tickHears ticked clocked reacted turned turn step planOf came accepts collects joined settle logged logBy listed acceptedIn isPower typed fair premises faults outOf next endOf lineBit soutOf powerOn allSent table resetRegs cleared powerUpFlags writeTxfflvl registersClosed faulted tickNote elapsed modeAt flagsAt controlAt placeSent writeEnds began
+unfolding ticks frame opening val odd bit highFirst pick shift crcBit crcBits crcWord crcFrom crcOf write registerWrite rows byNumber decodeOurs raised blocking isNormal powerUpControl writeStatus writeMasked writeOf checkBit pieceLength wordBit pieceBit runOn shiftIn atCheck inGroup inLost hear dataWords mineOf owedBy toCome collectSound replySound phaseSound powerUp noPlace newPlace waiting wordsOf moved freed firstUnread claimed returned written ringAfter stored done roleSound slotSound slotsBelow pieceSound earSound marksSound otpSound isUnmarked choose bitSent wordSent queueSent senderAfter advanced finished isStarve isStart sentBy tickSender wordRead errorRead endRead wordTaken atEnd ended takenBy tickReader asksStore guard mineAfter enqueues clears forwarded forwardWord forwardBegun opened isQuiet isTransmitClear isReceiveClear isRefused withWrite registerWord dataWord wrongCrc forwardClosed crcDue plannedIn planned releasedIn clearedAway received settled concluded performed powered isForward blockedIn same markAfter watched starvedFlags flagsSent phaseAfter controlTicked tickEnds tickHears ticked clocked reacted turned turn step planOf came accepts collects joined settle logged logBy listed acceptedIn isPower typed fair premises faults outOf next endOf lineBit soutOf powerOn allSent table resetRegs cleared powerUpFlags writeTxfflvl registersClosed faulted tickNote elapsed modeAt flagsAt controlAt placeSent writeEnds began
 meets es = premises ours from es
 
 unfoldable sends-all : List Event → Bool

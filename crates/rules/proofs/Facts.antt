@@ -25,20 +25,8 @@ use Rattle.state.specs.declared.Sender.{Sender}
 use Rattle.state.specs.declared.Sending.{Sending}
 use Rattle.state.specs.declared.Phase.{Phase}
 use Rattle.state.specs.declared.Bridge.{Bridge}
-use Rattle.rules.specs.Sound.{ringSound, placeSound, isFresh, waits, awaits, roleSound, slotSound, placesSound, queueSound, pieceSound, lastBegun, senderSound, earSound, marksSound, readerSound, otpSound, drdySound, controlSound, isUnmarked, lastLeft, ledger, sound}
+use Rattle.rules.specs.Sound.{ringSound, placeSound, isFresh, waits, awaits, roleSound, slotSound, slotsBelow, queueSound, pieceSound, lastBegun, senderSound, earSound, marksSound, readerSound, otpSound, drdySound, controlSound, isUnmarked, lastLeft, ledger, sound}
 use Rattle.rules.specs.Facts.{Standing, SenderFit, Balanced, Sound, allSome}
-
--- what holds of the eight numbers below 8 holds of each
-eight : (P : ℕ → Type 0) → P 0 → P 1 → P 2 → P 3 → P 4 → P 5 → P 6 → P 7 → (i : ℕ) → i < 8 → P i
-eight P a b c d e f g k zero h = a
-eight P a b c d e f g k (suc zero) h = b
-eight P a b c d e f g k (suc (suc zero)) h = c
-eight P a b c d e f g k (suc (suc (suc zero))) h = d
-eight P a b c d e f g k (suc (suc (suc (suc zero)))) h = e
-eight P a b c d e f g k (suc (suc (suc (suc (suc zero))))) h = f
-eight P a b c d e f g k (suc (suc (suc (suc (suc (suc zero)))))) h = g
-eight P a b c d e f g k (suc (suc (suc (suc (suc (suc (suc zero))))))) h = k
-eight P a b c d e f g k (suc (suc (suc (suc (suc (suc (suc (suc i)))))))) h = absurd (omega arith)
 
 pub ring-fit : (size : ℕ) (r : Ring) → ringSound size r ≡ true → RingFit size r
 ring-fit size r h = record { head = ltb-true _ _ (search (and-l, and-r)); count = leb-true _ _ (search (and-l, and-r)) }
@@ -46,18 +34,22 @@ ring-fit size r h = record { head = ltb-true _ _ (search (and-l, and-r)); count 
 pub ring-from : (size : ℕ) (r : Ring) → RingFit size r → ringSound size r ≡ true
 ring-from size r f = and-both _ _ (lt-ltb _ _ (f .head)) (le-leb _ _ (f .count))
 
--- the eight tests are the test of each place
-pub place-sound : (q : Queue) → placesSound q ≡ true → (i : ℕ) → i < 8 → slotSound q i ≡ true
-place-sound q h =
-    eight (λ (i : ℕ). slotSound q i ≡ true)
-    (search (and-l, and-r) depth 30)
-    (search (and-l, and-r) depth 30)
-    (search (and-l, and-r) depth 30)
-    (search (and-l, and-r) depth 30)
-    (search (and-l, and-r) depth 30)
-    (search (and-l, and-r) depth 30)
-    (search (and-l, and-r) depth 30)
-    (search (and-l, and-r) depth 30)
+-- the test of all is the test of each
+slots-at : (q : Queue) (n i : ℕ) → slotsBelow q n ≡ true → i < n → slotSound q i ≡ true
+unfolding slotsBelow
+slots-at q zero i h l = absurd (omega arith)
+slots-at q (suc n) i h l = go (ltb i n) refl (λ d. slots-at q n i (and-l (slotsBelow q n) (slotSound q n) h) d)
+  where
+    go : (t : Bool) → ltb i n ≡ t → (i < n → slotSound q i ≡ true) → slotSound q i ≡ true
+    go true e f = f (ltb-true _ _ e)
+    go false e f =
+        let d : n ≤ i = ltb-false _ _ e in
+        let m : i ≡ n = omega arith in rw m (and-r (slotsBelow q n) (slotSound q n) h)
+
+slots-from : (q : Queue) → ((i : ℕ) → slotSound q i ≡ true) → (n : ℕ) → slotsBelow q n ≡ true
+unfolding slotsBelow
+slots-from q a zero = refl
+slots-from q a (suc n) = and-both _ _ (slots-from q a n) (a n)
 
 place-words : (p : Place) → placeSound p ≡ true → p .words ≤ 4096
 place-words p h = leb-true _ _ (search (and-l, and-r))
@@ -97,7 +89,7 @@ module _ (q : Queue) (h : queueSound q ≡ true) where
   used-most = leb-true _ _ (search (and-l, and-r))
 
   slot : (i : ℕ) → i < q .used → (placeSound (placeAt q i) && roleSound (q .begun) i (placeAt q i)) ≡ true
-  slot i l = in-use q i (place-sound q (search (and-l, and-r)) i (omega (arith, used-most))) l
+  slot i l = in-use q i (slots-at q 8 i (search (and-l, and-r)) (omega (arith, used-most))) l
 
   role : (i : ℕ) → i < q .used → roleSound (q .begun) i (placeAt q i) ≡ true
   role i l = and-r (placeSound (placeAt q i)) _ (slot i l)
@@ -139,10 +131,7 @@ slot-from q i f s =
 
 pub queue-from : (q : Queue) → QueueFit q → Standing q → queueSound q ≡ true
 queue-from q f s =
-    let p : (i : ℕ) → slotSound q i ≡ true = λ i. slot-from q i f s in
-    and-both _ _ (and-both _ _ (le-leb _ _ (f .order)) (le-leb _ _ (f .most)))
-    (and-both _ _ (and-both _ _ (and-both _ _ (and-both _ _ (and-both _ _ (and-both _ _ (and-both _ _
-    (p 0) (p 1)) (p 2)) (p 3)) (p 4)) (p 5)) (p 6)) (p 7))
+    and-both _ _ (and-both _ _ (le-leb _ _ (f .order)) (le-leb _ _ (f .most))) (slots-from q (λ i. slot-from q i f s) 8)
 
 -- what waits has something to send
 some-first : (n : ℕ) (ps : List Place) → ((j : ℕ) → j < n → waits (getD ps j noPlace) ≡ true) → allSome (take n ps) ≡ true
@@ -293,9 +282,9 @@ pub host-fit : (b : Bridge) → sound b ≡ true → HostFit b
 host-fit b h = fit-of b (sound-facts b h)
 
 pub power-up-sound : sound powerUp ≡ true
-unfolding powerUp powerUpControl powerUpFlags resetRegs table noPlace pieceLength pieceSound slotSound earSound marksSound otpSound blocking isUnmarked phaseSound mineOf toCome waiting wordsOf pick
+unfolding powerUp powerUpControl powerUpFlags resetRegs table noPlace pieceLength pieceSound slotsBelow slotSound earSound marksSound otpSound blocking isUnmarked phaseSound mineOf toCome waiting wordsOf pick
 power-up-sound = refl
 
 pub power-up-bad-sound : sound powerUpBad ≡ true
-unfolding powerUpBad badControl powerUpControl powerUpFlags resetRegs table noPlace pieceLength pieceSound slotSound earSound marksSound otpSound blocking isUnmarked phaseSound mineOf toCome waiting wordsOf pick
+unfolding powerUpBad badControl powerUpControl powerUpFlags resetRegs table noPlace pieceLength pieceSound slotsBelow slotSound earSound marksSound otpSound blocking isUnmarked phaseSound mineOf toCome waiting wordsOf pick
 power-up-bad-sound = refl

@@ -6,7 +6,7 @@ use Prim.Native.Nat.{ℕ, zero, suc, _+_, _*_, _-_, _≤_, _<_}
 use native.Mathlib.Numerals.{add-one}
 use native.Mathlib.Omega.{arith}
 use lib.Dec.{ltb, leb, eqb}
-use borrow.Author.Tests.{lt-leb}
+use borrow.Author.Tests.{lt-leb, le-leb}
 use lib.ListN.{length, take, drop, getD, drop-of-length-le, List·getD-eq-default}
 use lib.Seq.{drop-cons, take-nil}
 use Rattle.base.specs.Pick.{pick, pick-true, pick-false, pick-lt}
@@ -25,7 +25,7 @@ use Rattle.state.specs.declared.Queue.{Queue}
 use Rattle.state.specs.declared.Sending.{Sending}
 use Rattle.state.specs.Queue.{noPlace, placeAt, waiting, wordsOf}
 use Rattle.state.specs.Frame.{isForward, dataWords, owedBy, mineOf, toCome, collectSound, replySound, phaseSound}
-use Rattle.rules.specs.Sound.{placeSound, roleSound, slotSound, pieceSound, earSound, marksSound, otpSound, isUnmarked, lastLeft}
+use Rattle.rules.specs.Sound.{placeSound, roleSound, slotSound, slotsBelow, placesSound, pieceSound, earSound, marksSound, otpSound, isUnmarked, lastLeft}
 
 -- an arm knows the constructor
 pub to-collect : (v w : Command) (got mine : ℕ) (released blocked x : Bool) → v ≡ w → x ≡ collectSound w got mine released blocked
@@ -72,12 +72,6 @@ and-told a s t h = rw h
 
 pub not-told : (s t : Bool) → s ≡ t → not s ≡ not t
 not-told s t h = rw h
-
--- a place in use, by what its two tests answered
-pub slot-told : (q : Queue) (i : ℕ) (p : Place) (a b : Bool) → p ≡ placeAt q i → i < q .used → a ≡ placeSound p → b ≡ roleSound (q .begun) i p
-    → (a && b) ≡ slotSound q i
-unfolding slotSound
-slot-told q i p a b e l h k = pick-false _ _ _ _ (lt-leb (q .used) i l) (rw (h, k, e) refl)
 
 -- an END's piece, by the ENDs that it was told may be left
 pub end-told : (u : Piece) (gone left ends : ℕ) (busy : Bool) (words extra most : ℕ) → u ≡ EndPiece → most ≡ pick busy extra 0
@@ -153,3 +147,53 @@ module _ (q : Queue) (words i : ℕ) (v : Counted q words i) where
   pub summed : rest q i ≡ [] → words ≡ wordsOf (waiting q)
   unfolding wordsOf
   summed e = let o : wordsOf (rest q i) ≡ 0 = rw e in omega (arith, v .sum)
+
+-- 2. The walk over the places in use.
+
+slot-used : (q : Queue) (i : ℕ) (p : Place) (a b : Bool) → p ≡ placeAt q i → i < q .used → a ≡ placeSound p → b ≡ roleSound (q .begun) i p
+    → (a && b) ≡ slotSound q i
+unfolding slotSound
+slot-used q i p a b e l h k = pick-false _ _ _ _ (lt-leb (q .used) i l) (rw (h, k, e) refl)
+
+and-again : (a b c : Bool) → ((a && b) && c) ≡ (a && (b && c))
+and-again true b c = refl
+and-again false b c = refl
+
+and-end : (a : Bool) → (a && true) ≡ a
+and-end true = refl
+and-end false = refl
+
+-- places that are not in use change nothing
+slots-rest : (q : Queue) (i n m : ℕ) → m ≡ i + n → q .used ≤ i → slotsBelow q m ≡ slotsBelow q i
+unfolding slotsBelow slotSound
+slots-rest q i zero m e u = let x : m ≡ i = omega arith in rw x
+slots-rest q i (suc n) m e u =
+    let x : m ≡ suc (i + n) = omega arith in
+    let t : slotSound q (i + n) ≡ true = sym (pick-true _ _ _ _ (le-leb (q .used) (i + n) (omega arith)) refl) in
+    rw (x, t) (and-end (slotsBelow q (i + n)) ∙ slots-rest q i n (i + n) refl u)
+
+-- the test so far is that of the places passed
+pub record Slotted (q : Queue) (good : Bool) (i : ℕ) : Type 0 where
+  pub long : length (q .places) ≡ 8
+  pub most : i ≤ 8
+  pub test : good ≡ slotsBelow q i
+
+pub none-slotted : (q : Queue) → length (q .places) ≡ 8 → Slotted q true 0
+unfolding slotsBelow
+none-slotted q l = record { long = l; most = omega arith; test = refl }
+
+module _ (q : Queue) (good : Bool) (i : ℕ) (v : Slotted q good i) where
+  pub one-slotted : (p : Place) (used begun : ℕ) (a b : Bool) → p ≡ placeAt q i → i < 8 → used ≡ q .used → begun ≡ q .begun → i < used → a ≡ placeSound p
+      → b ≡ roleSound begun i p → Slotted q ((good && a) && b) (i + 1)
+  unfolding slotsBelow
+  one-slotted p used begun a b e l u g h x y =
+      let k : (a && b) ≡ slotSound q i = slot-used q i p a b e (omega arith) x (rw g at y) in
+      let n : i + 1 ≡ suc i = omega arith in
+      record { long = v .long; most = omega arith; test = rw n (and-again good a b ∙ rw (k, v .test) refl) }
+
+  pub all-slotted : (used : ℕ) → used ≡ q .used → used ≤ i → good ≡ placesSound q
+  all-slotted used u h =
+      v .test ∙ sym (slots-rest q i (8 - i) 8 (omega (arith, v .most)) (omega arith))
+
+  pub past-slotted : 8 ≤ i → good ≡ placesSound q
+  past-slotted h = let n : i ≡ 8 = omega (arith, v .most) in rw n at (v .test)

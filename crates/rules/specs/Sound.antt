@@ -2,7 +2,7 @@
 -- means. docs/RECORD-RULES.md says what each is for, and what is left free.
 use mathlib.Core.Bool.{Bool, true, false, not, _&&_, _||_}
 use mathlib.Core.List.{List, [], _∷_}
-use Prim.Native.Nat.{ℕ, _+_, _-_}
+use Prim.Native.Nat.{ℕ, zero, suc, _+_, _-_}
 use lib.Dec.{ltb, leb, eqb}
 use Rattle.base.specs.Pick.{pick}
 use Rattle.crc16.specs.Crc.{start}
@@ -62,9 +62,13 @@ roleSound begun i p = pick (leb begun i) (waits p) (pick (ltb (i + 1) begun) (aw
 unfoldable pub slotSound : Queue → ℕ → Bool
 slotSound q i = pick (leb (q .used) i) true (placeSound (placeAt q i) && roleSound (q .begun) i (placeAt q i))
 
+-- the first n places
+unfoldable pub slotsBelow : Queue → ℕ → Bool
+slotsBelow q zero = true
+slotsBelow q (suc n) = slotsBelow q n && slotSound q n
+
 abbrev pub placesSound : Queue → Bool
-placesSound q =
-    slotSound q 0 && slotSound q 1 && slotSound q 2 && slotSound q 3 && slotSound q 4 && slotSound q 5 && slotSound q 6 && slotSound q 7
+placesSound q = slotsBelow q places
 
 abbrev pub queueSound : Queue → Bool
 queueSound q = leb (q .begun) (q .used) && leb (q .used) places && placesSound q

@@ -2,7 +2,7 @@
 ghost use mathlib.Core.Path.{_≡_};
 ghost use Prim.Native.Nat.{_≤_, _<_};
 ghost use Rattle.state.specs.Queue.{waiting, wordsOf, isDone};
-ghost use Rattle.rules.specs.Sound.{placeSound, isFresh, waits as waitsOf, awaits as awaitsOf, roleSound, slotSound, placesSound};
+ghost use Rattle.rules.specs.Sound.{placeSound, isFresh, waits as waitsOf, awaits as awaitsOf, roleSound, placesSound};
 use state::Place;
 use state::Queue;
 
@@ -52,29 +52,23 @@ fn role_sound(place: Place, i: u16, begun: u16) -> bool
     !is_done(place)
 }
 
-fn slot_sound(queue: Queue, i: u16) -> bool
-    requires { ⌜ i < 8 ⌝ }
-    ensures { λ r. ⌜ r ≡ slotSound queue i ⌝ }
-{
-    if queue.used <= i {
-        return true;
-    }
-    let place = state::place_at(queue, i);
-    place_sound(place) & role_sound(place, i, queue.begun)
-}
-
+// Nothing is asked of a place that is not in use: a walk over those that are, in the record as it is lent.
 pub fn places_sound(queue: Queue) -> bool
     ensures { λ r. ⌜ r ≡ placesSound queue ⌝ }
 {
-    let a = slot_sound(queue, 0);
-    let b = slot_sound(queue, 1);
-    let c = slot_sound(queue, 2);
-    let d = slot_sound(queue, 3);
-    let e = slot_sound(queue, 4);
-    let f = slot_sound(queue, 5);
-    let g = slot_sound(queue, 6);
-    let h = slot_sound(queue, 7);
-    a & b & c & d & e & f & g & h
+    let used = queue.used;
+    let begun = queue.begun;
+    let mut good = true;
+    let mut i: u16 = 0;
+    while i < used {
+        if 8 <= i {
+            return good;
+        }
+        let place = queue.places[i as usize];
+        good = good & place_sound(place) & role_sound(place, i, begun);
+        i = i + 1;
+    }
+    good
 }
 
 // The words that the places not yet begun have to send. A broken state's `used` may pass the last place.

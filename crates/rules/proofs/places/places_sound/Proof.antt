@@ -1,47 +1,69 @@
+-- `places_sound` meets its contract: each turn passes one place in use.
 use borrow.Author.Needs.{needs}
+use mathlib.Core.Path.{_≡_, refl}
+use Prim.Native.Nat.{_-_}
+use lib.ListN.{length, length-map}
+use Rattle.state.specs.Queue.{noPlace}
+use Rattle.rules.proofs.Laws.{Slotted, none-slotted, one-slotted, all-slotted, past-slotted}
 use Rattle.rules.proofs.places.places_sound.Statement.{statement}
 use Rattle.rules.proofs.places.places_sound.Tie as tie
-use Rattle.rules.proofs.places.places_sound.Reads as reads
-use Rattle.rules.proofs.places.places_sound.Lts as lts
-use Rattle.rules.proofs.places.slot_sound.Reads as slot-sound-reads
 
-slot-sound-requires : tie.Need-slot-sound-requires
-slot-sound-requires c κs = search needs
+abbrev Inv-loop : tie.InvT-loop
+Inv-loop queue used begun good₀ i₀ good i = (used ≡ queue .used) × ((begun ≡ queue .begun) × Slotted queue good i)
 
-slot-sound-requires-2 : tie.Need-slot-sound-requires-2
-slot-sound-requires-2 c κs = search needs
+abbrev μ-loop : tie.MeasureT-loop
+μ-loop queue used begun good₀ i₀ good i = used - i
 
-slot-sound-requires-3 : tie.Need-slot-sound-requires-3
-slot-sound-requires-3 c κs = search needs
+loop-holds : tie.Need-loop-holds Inv-loop μ-loop
+loop-holds c =
+    let l : length (c .args .t1 .places) ≡ 8 = simp length-map at (c .good .0 .1 .1 .0 .1 .0 .1) in
+    (refl, (refl, none-slotted (c .args .t1) l))
 
-slot-sound-requires-4 : tie.Need-slot-sound-requires-4
-slot-sound-requires-4 c κs = search needs
+returns : tie.Need-returns Inv-loop μ-loop
+returns c = search (needs, past-slotted)
 
-slot-sound-requires-5 : tie.Need-slot-sound-requires-5
-slot-sound-requires-5 c κs = search needs
+cast-place : tie.Need-cast-place Inv-loop μ-loop
+cast-place c = search needs
 
-slot-sound-requires-6 : tie.Need-slot-sound-requires-6
-slot-sound-requires-6 c κs = search needs
+mul-place : tie.Need-mul-place Inv-loop μ-loop
+mul-place c = search needs
 
-slot-sound-requires-7 : tie.Need-slot-sound-requires-7
-slot-sound-requires-7 c κs = search needs
+element-copy-out-place : tie.Need-element-copy-out-place Inv-loop μ-loop
+element-copy-out-place c = search needs
 
-slot-sound-requires-8 : tie.Need-slot-sound-requires-8
-slot-sound-requires-8 c κs = search needs
+place-sound-requires : tie.Need-place-sound-requires Inv-loop μ-loop
+place-sound-requires c κs = search needs
 
-returns : tie.Need-returns
-returns c = cc
+role-sound-requires : tie.Need-role-sound-requires Inv-loop μ-loop
+role-sound-requires c κs = search needs
+
+add-i : tie.Need-add-i Inv-loop μ-loop
+add-i c = search needs
+
+loop-less : tie.Need-loop-less Inv-loop μ-loop
+loop-less c = search needs
+
+loop-again : tie.Need-loop-again Inv-loop μ-loop
+unfolding noPlace
+loop-again c = search (needs, one-slotted)
+
+returns-2 : tie.Need-returns-2 Inv-loop μ-loop
+returns-2 c = search (needs, all-slotted)
 
 pub places-sound-spec : {M : Type 1} → statement M
 places-sound-spec =
     tie.close
     (tie.spec
-    slot-sound-requires
-    slot-sound-requires-2
-    slot-sound-requires-3
-    slot-sound-requires-4
-    slot-sound-requires-5
-    slot-sound-requires-6
-    slot-sound-requires-7
-    slot-sound-requires-8
-    returns)
+    Inv-loop
+    μ-loop
+    loop-holds
+    returns
+    cast-place
+    mul-place
+    element-copy-out-place
+    place-sound-requires
+    role-sound-requires
+    add-i
+    loop-less
+    loop-again
+    returns-2)
