@@ -1,4 +1,5 @@
 pub mod Pick
+pub mod Truth
 pub mod Bits
 pub mod Table
 pub mod Unique

@@ -24,12 +24,17 @@ use Rattle.state.specs.declared.Phase.{Phase}
 use Rattle.state.specs.declared.Phase.the-variants.{Idle, Collecting, Answering, Discarding}
 use Rattle.state.specs.declared.Reply.{Reply}
 use Rattle.state.specs.declared.Reply.the-variants.{Status, Data, Registers, Check}
-use Rattle.host.specs.Forward.{guard, faulted, clears, forwarded, forwardWord, forwardBegun}
-use Rattle.host.specs.Frames.{opened, withWrite, writeAll, noEffects, heldWord, registerWord, dataWord, wrongCrc, forwardClosed, registersClosed, readClosed, resetClosed, crcDue, answerWith, dataAnswered, registerAnswered, answered, plannedIn, planned, cut, releasedIn}
-use Rattle.host.specs.declared.Effects.{Effects}
-use Rattle.host.specs.declared.Granted.{Granted}
-use Rattle.host.specs.declared.Plan.{Plan}
-use Rattle.host.specs.declared.Wish.{Wish}
+use Rattle.forwards.specs.Forward.{guard, faulted, clears, forwarded, forwardWord, forwardBegun}
+use Rattle.host.specs.Frames.{opened, dataWord, plannedIn, planned}
+use Rattle.release.specs.Release.{releasedIn}
+use Rattle.writes.specs.Writes.{withWrite, writeAll, noEffects, heldWord, registerWord}
+use Rattle.closing.specs.Closing.{wrongCrc, forwardClosed, registersClosed, readClosed, resetClosed, crcDue}
+use Rattle.release.specs.Release.{cut}
+use Rattle.answers.specs.Answers.{answerWith, dataAnswered, registerAnswered, answered}
+use Rattle.writes.specs.declared.Effects.{Effects}
+use Rattle.forwards.specs.declared.Granted.{Granted}
+use Rattle.plan.specs.declared.Plan.{Plan}
+use Rattle.forwards.specs.declared.Wish.{Wish}
 use Rattle.bridge.specs.Runs.{refuses, faults}
 
 -- a note that is neither a refusal's nor that of a starved tick

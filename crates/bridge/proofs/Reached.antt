@@ -20,7 +20,9 @@ use Rattle.state.specs.declared.Store.the-variants.{Keep, Put}
 use Rattle.kept.proofs.Fits.{LayoutFit}
 use Rattle.kept.proofs.Sound.{facts-sound}
 use Rattle.kept.specs.Rules.{BridgeRules}
-use Rattle.events.specs.Events.{tickNote, tickEnds, tickHears, ticked, clocked, reacted}
+use Rattle.ticks.specs.Ticks.{tickNote, tickEnds, tickHears, ticked}
+use Rattle.clock.specs.Clock.{clocked}
+use Rattle.events.specs.Events.{reacted}
 use Rattle.events.specs.Turn.{turned, turn}
 use Rattle.events.specs.declared.Event.{Event}
 use Rattle.events.specs.declared.Event.the-variants.{Power, Word, Release, Tick, Clock as ClockReading}

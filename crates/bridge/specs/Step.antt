@@ -11,7 +11,7 @@ use Rattle.state.specs.declared.Bridge.{Bridge}
 use Rattle.state.specs.declared.Note.{Note}
 use Rattle.state.specs.declared.Note.the-variants.{WrongStores, BrokenRecord}
 use Rattle.rules.specs.Sound.{sound}
-use Rattle.host.specs.Plan.{noAnswer}
+use Rattle.plan.specs.Plan.{noAnswer}
 use Rattle.events.specs.Turn.{Out, out, turn}
 use Rattle.events.specs.declared.Answer.{Answer}
 use Rattle.events.specs.declared.Event.{Event}

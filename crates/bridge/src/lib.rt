@@ -31,7 +31,7 @@ pub fn step(bridge: Bridge, tx: &mut [u16], rx: &mut [u16], event: Event) -> Ans
         return refused(bridge, Note::WrongStores);
     }
     if rules::sound(bridge) {
-        return events::turn(bridge, tx, rx, event);
+        return quick::turn(bridge, tx, rx, event);
     }
     refused(bridge, Note::BrokenRecord)
 }

@@ -12,23 +12,14 @@ use lib.Bits.{bitXor, xor-lt, xor-zero-r}
 use lib.Dec.{eqb}
 use lib.ListN.{length, drop, getD}
 use lib.Seq.{drop-cons, drop-length}
-use Rattle.base.specs.Bits.{val, odd, bit, highFirst}
+use Rattle.base.specs.Bits.{val, odd, bit, highFirst, val-le, val-odd}
 use Rattle.crc16.specs.Crc.{start, shift, shifts, crcBit, crcBits, crcWord, crcFrom, crcOf}
 use Rattle.crc16.proofs.Xor.{digit}
 use Rattle.crc16.proofs.Linear.{shift-lt, rest-up}
 
-val-lt : (b : Bool) → val b < 2
-unfolding val
-val-lt true = omega arith
-val-lt false = omega arith
-
-val-odd : (m : ℕ) → val (odd m) ≡ m % 2
-unfolding val odd
-val-odd m = digit (λ (x : ℕ). val (eqb x 1) ≡ x) refl refl (m % 2) (omega arith)
-
 bit-lt : (c : ℕ) (b : Bool) → c < 65536 → crcBit c b < 65536
 unfolding crcBit
-bit-lt c b h = let v : val b < 2 = val-lt b in shift-lt _ (xor-lt 16 c (val b * 32768) h (omega arith))
+bit-lt c b h = let v : val b ≤ 1 = val-le b in shift-lt _ (xor-lt 16 c (val b * 32768) h (omega arith))
 
 bits-lt : (bs : List Bool) (c : ℕ) → c < 65536 → crcBits c bs < 65536
 unfolding crcBits

@@ -3,7 +3,7 @@ use mathlib.Core.Bool.{Bool}
 use mathlib.Core.List.{List, [], _∷_}
 use Prim.Native.Nat.{ℕ, zero, suc, _*_, _/_, _%_}
 use lib.Bits.{bitXor}
-use Rattle.base.specs.Bits.{val, highFirst}
+use Rattle.base.specs.Bits.{wordLength, wordEnd, topBit, val, highFirst}
 
 -- x^16 + x^12 + x^5 + 1, without its x^16. 01 Frames (ours)
 abbrev pub polynomial : ℕ
@@ -15,7 +15,7 @@ start = 0xFFFF
 
 -- one polynomial shift: the top bit goes out, and where it was 1 the polynomial is taken off
 unfoldable pub shift : ℕ → ℕ
-shift c = bitXor (c * 2 % 65536) (c / 32768 * polynomial)
+shift c = bitXor (c * 2 % wordEnd) (c / topBit * polynomial)
 
 unfoldable pub shifts : ℕ → ℕ → ℕ
 shifts zero c = c
@@ -23,7 +23,7 @@ shifts (suc n) c = shifts n (shift c)
 
 -- one bit of the message is added to the top bit, then one shift
 unfoldable pub crcBit : ℕ → Bool → ℕ
-crcBit c b = shift (bitXor c (val b * 32768))
+crcBit c b = shift (bitXor c (val b * topBit))
 
 unfoldable pub crcBits : ℕ → List Bool → ℕ
 crcBits c [] = c
@@ -31,7 +31,7 @@ crcBits c (b ∷ bs) = crcBits (crcBit c b) bs
 
 -- a word, high bit first
 unfoldable pub crcWord : ℕ → ℕ → ℕ
-crcWord c w = crcBits c (highFirst 16 w)
+crcWord c w = crcBits c (highFirst wordLength w)
 
 -- words, from a CRC so far
 unfoldable pub crcFrom : ℕ → List ℕ → ℕ

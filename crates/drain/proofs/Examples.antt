@@ -19,11 +19,15 @@ use Rattle.state.specs.Queue.{noPlace, newPlace, waiting, wordsOf, moved, freed
 use Rattle.state.specs.Rings.{written}
 use Rattle.state.specs.declared.Bridge.{Bridge}
 use Rattle.state.specs.declared.Note.the-variants.{WrongStores, BrokenRecord}
-use Rattle.rules.specs.Sound.{roleSound, slotSound, slotsBelow, pieceSound, earSound, marksSound, otpSound, isUnmarked}
-use Rattle.sender.specs.Sender.{choose, bitSent, wordSent, queueSent, senderAfter, advanced, placeSent, finished, isStarve, isStart, sentBy, tickSender}
+use Rattle.place_rules.specs.Places.{roleSound, slotSound, slotsBelow}
+use Rattle.line_rules.specs.Line.{pieceSound, earSound, marksSound}
+use Rattle.frame_rules.specs.Frames.{otpSound, isUnmarked}
+use Rattle.next.specs.Next.{choose, bitSent, isStarve, isStart}
+use Rattle.sender.specs.Sender.{wordSent, queueSent, senderAfter, advanced, placeSent, finished, sentBy, tickSender}
 use Rattle.reader.specs.Reader.{takenBy, tickReader}
-use Rattle.host.specs.Plan.{settled}
-use Rattle.events.specs.Events.{same, markAfter, watched, starvedFlags, flagsSent, phaseAfter, controlTicked, tickNote, tickEnds, tickHears, ticked, reacted}
+use Rattle.plan.specs.Plan.{settled}
+use Rattle.ticks.specs.Ticks.{same, markAfter, watched, starvedFlags, flagsSent, phaseAfter, controlTicked, tickNote, tickEnds, tickHears, ticked}
+use Rattle.events.specs.Events.{reacted}
 use Rattle.events.specs.Turn.{turned, turn}
 use Rattle.drain.specs.Drain.{End, runOf, drain}
 use Rattle.drain.specs.Cost.{Calm, Accepted}
@@ -43,7 +47,7 @@ queuedOne words ends = record {
 }
 
 unfoldable pub drainedOne : ℕ → ℕ → ℕ → ℕ → End
-unfolding queuedOne val odd bit highFirst pick shift crcBit crcBits crcWord checkBit pieceLength wordBit pieceBit hear raised blocking isNormal powerUpControl table resetRegs cleared powerUpFlags mineOf toCome phaseSound powerUp noPlace newPlace waiting wordsOf moved freed returned written roleSound slotSound slotsBelow pieceSound earSound marksSound otpSound isUnmarked choose bitSent wordSent queueSent senderAfter advanced placeSent finished isStarve isStart sentBy tickSender takenBy tickReader settled same markAfter watched starvedFlags flagsSent phaseAfter controlTicked tickNote tickEnds tickHears ticked reacted turned turn runOf drain
+unfolding queuedOne val odd bit highFirst pick shift crcBit crcBits crcWord checkBit wordBit pieceBit hear raised blocking powerUpControl table resetRegs cleared powerUpFlags mineOf toCome phaseSound powerUp noPlace newPlace waiting wordsOf moved freed returned written roleSound slotSound slotsBelow pieceSound earSound marksSound isUnmarked choose bitSent wordSent queueSent senderAfter advanced placeSent finished sentBy tickSender takenBy tickReader settled same markAfter watched starvedFlags flagsSent phaseAfter controlTicked tickNote tickEnds tickHears ticked reacted turned turn runOf drain
 drainedOne words ends cells budget = drain ours (queuedOne words ends) (replicate cells 0xAAF0) (replicate 256 0) budget
 
 pub one-word : drainedOne 1 0 512 100 .drained .ticks ≡ 36
@@ -75,7 +79,7 @@ broken = refl
 
 -- the premises of the sum can be met
 pub calm : (words ends : ℕ) → Calm (queuedOne words ends)
-unfolding queuedOne cleared powerUpFlags blocking powerUp pieceLength toCome
+unfolding queuedOne cleared powerUpFlags blocking powerUp toCome
 calm words ends = record { normal = refl; clear = refl; unblocked = refl; sender = refl; reader = refl; stored = refl }
 
 pub accepted : Accepted (queuedOne 1 0) (replicate 512 0xAAF0) (replicate 256 0)

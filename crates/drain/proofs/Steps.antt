@@ -25,7 +25,7 @@ use Rattle.bridge.specs.Runs.{Config, refuses, outOf, next, endOf}
 use Rattle.bridge.specs.Step.{refused, step}
 use Rattle.bridge.proofs.Reached.{Obeys, obeyed-turn, step-obeys, not-refused}
 use Rattle.drain.specs.Drain.{End, stopped, atRest, runOf, drain}
-use Rattle.drain.proofs.Ticks.{never}
+use Rattle.base.specs.Truth.{never}
 use Rattle.drain.specs.Steps.{after, noteAt, lastNote, leftAt, Stepped}
 
 note-done : (n : Note) → noteNumber n ≡ 0 → n ≡ Done

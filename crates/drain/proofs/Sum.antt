@@ -24,18 +24,21 @@ use Rattle.state.specs.declared.Note.{Note}
 use Rattle.state.specs.declared.Note.the-variants.{Done}
 use Rattle.state.specs.declared.Queue.{Queue}
 use Rattle.state.specs.declared.Receiving.{Receiving}
-use Rattle.sender.specs.Sender.{mayStart, tickSender}
+use Rattle.next.specs.Next.{mayStart}
+use Rattle.sender.specs.Sender.{tickSender}
 use Rattle.sender.specs.declared.Sent.{Sent}
 use Rattle.reader.specs.Reader.{withEar, taken, takenBy, tickReader}
-use Rattle.host.specs.Plan.{settled}
+use Rattle.plan.specs.Plan.{settled}
 use Rattle.kept.specs.Rules.{SendRules, BridgeRules}
 use Rattle.kept.proofs.Sound.{sound-facts}
-use Rattle.events.specs.Events.{starvedFlags, flagsSent, phaseAfter, controlTicked, tickNote, tickEnds, tickHears, ticked, reacted}
+use Rattle.ticks.specs.Ticks.{starvedFlags, flagsSent, phaseAfter, controlTicked, tickNote, tickEnds, tickHears, ticked}
+use Rattle.events.specs.Events.{reacted}
 use Rattle.events.specs.Turn.{Out, turned, turn}
 use Rattle.events.proofs.Ticks.{tick-keeps}
 use Rattle.drain.specs.Drain.{End, atRest, tickOn, runOf, drain}
 use Rattle.drain.specs.Cost.{ticksDue, Calm, Accepted, Rests}
-use Rattle.drain.proofs.Ticks.{never, remaining, sentAll, falls, rest-none}
+use Rattle.base.specs.Truth.{never}
+use Rattle.drain.proofs.Ticks.{remaining, sentAll, falls, rest-none}
 
 -- A 1 on a quiet line changes nothing of the reader, the queue and the flags.
 quiet-taken : (r : Receiving) (q : Queue) (f : Flags) → r .reader .ear ≡ Quiet → tickReader r q f true ≡ taken (withEar r Quiet) q f false
@@ -136,7 +139,7 @@ idle-remaining b c =
 -- "with neither note 1 nor 2 due and budget enough, it is the sum over queued commands"
 pub drained-sum : (l : Layout) (b : Bridge) (tx rx : List ℕ) (budget : ℕ) → Calm b → Accepted b tx rx → ticksDue b ≤ budget
     → Rests (drain l b tx rx budget) (ticksDue b)
-unfolding drain isNormal pick
+unfolding drain pick
 drained-sum l b tx rx budget c a h =
     let v : Steady b = record {
       rules = sound-facts b (a .rules) (a .eight);

@@ -7,23 +7,22 @@ use native.Mathlib.Omega.{arith}
 use lib.Dec.{ltb}
 use borrow.Author.Tests.{ltb-true, ltb-false, leb-true, eqb-true, lt-ltb, le-ltb, eq-eqb, le-leb, not-true}
 use Rattle.base.specs.Pick.{pick, pick-keeps, and-l, and-r}
+use Rattle.base.specs.Truth.{never}
 use Rattle.line.specs.Format.{pieceLength}
 use Rattle.state.specs.Queue.{placeAt, waiting, begunOne}
 use Rattle.state.specs.Sending.{idle}
 use Rattle.state.specs.declared.Place.{Place}
 use Rattle.state.specs.declared.Sending.{Sending}
 use Rattle.rules.specs.Facts.{allSome}
-use Rattle.sender.specs.Sender.{choose, queueSent, senderAfter, advanced, finished, isStarve, sentBy, tickSender}
-use Rattle.sender.specs.declared.Next.{Next}
-use Rattle.sender.specs.declared.Next.the-variants.{GoOn, LoadWord, Starve, LoadEnd, StartWords, StartEnds}
+use Rattle.next.specs.Next.{choose, isStarve}
+use Rattle.sender.specs.Sender.{queueSent, senderAfter, advanced, finished, sentBy, tickSender}
+use Rattle.next.specs.declared.Next.{Next}
+use Rattle.next.specs.declared.Next.the-variants.{GoOn, LoadWord, Starve, LoadEnd, StartWords, StartEnds}
 use Rattle.kept.specs.Rules.{SendRules}
-use Rattle.kept.proofs.Tests.{none-left}
+use Rattle.base.specs.Truth.{none-left}
 use Rattle.kept.proofs.Queue.{Kept, waiting-begun, waiting-none}
 use Rattle.kept.proofs.Sender.{kept-sent, kept-finished, rules-advanced, chosen}
 use Rattle.drain.specs.Cost.{cost, costOf}
-
-pub never : {A : Type 0} (t : Bool) → t ≡ true → t ≡ false → A
-never t h k = let y : _≡_ {A = ℕ} 0 1 = cc in absurd (omega arith)
 
 cost-words : (p : Place) → 0 < p .words → cost p ≡ 19 + 17 * p .words + 18 * p .ends
 unfolding cost pick
@@ -48,12 +47,12 @@ pub record Falls (s : Sending) (w : ℕ) (n : Next) : Type 0 where
 
 module _ (s : Sending) (w m : ℕ) (r : SendRules s 0 m) where
   falls-on : s .sender .gone < pieceLength (s .sender .piece) → Falls s w GoOn
-  unfolding advanced senderAfter isStarve remaining
+  unfolding advanced senderAfter remaining
   falls-on h = record { fed = refl; less = omega arith }
 
   module _ (o : pieceLength (s .sender .piece) ≤ s .sender .gone) where
     falls-word : 0 < s .sender .left → Falls s w LoadWord
-    unfolding advanced senderAfter isStarve remaining pieceLength
+    unfolding advanced senderAfter remaining
     falls-word h =
         let k : Kept (s .queue) (queueSent (s .queue) (s .sender .left) w) = kept-sent (s .queue) (s .sender .left) w (r .queue) (r .eight) in
         record { fed = refl; less = rw (k .waits) (omega arith) }
@@ -64,7 +63,7 @@ module _ (s : Sending) (w m : ℕ) (r : SendRules s 0 m) where
 
     module _ (z : s .sender .left ≡ 0) where
       falls-end : 0 < s .sender .ends → Falls s w LoadEnd
-      unfolding advanced senderAfter isStarve remaining pieceLength
+      unfolding advanced senderAfter remaining
       falls-end h = record { fed = refl; less = omega arith }
 
       module _ (y : s .sender .ends ≡ 0) (b : s .queue .begun < s .queue .used) where
@@ -86,11 +85,11 @@ module _ (s : Sending) (w m : ℕ) (r : SendRules s 0 m) where
         sum = rw next
 
         falls-start : 0 < first .words → Falls s w StartWords
-        unfolding advanced senderAfter isStarve remaining pieceLength
+        unfolding advanced senderAfter remaining
         falls-start h = record { fed = refl; less = omega (arith, sum, cost-words first h) }
 
         falls-ends : first .words ≡ 0 → Falls s w StartEnds
-        unfolding advanced senderAfter isStarve remaining pieceLength
+        unfolding advanced senderAfter remaining
         falls-ends h = record { fed = refl; less = omega (arith, sum, cost-ends first h, some) }
 
   -- where nothing is left the tick would stay: it is at rest

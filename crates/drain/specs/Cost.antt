@@ -11,7 +11,7 @@ use Rattle.line.specs.declared.Ear.the-variants.{Quiet}
 use Rattle.registers.specs.Registers.{blocking}
 use Rattle.registers.specs.declared.Mode.the-variants.{Normal}
 use Rattle.state.specs.Frame.{toCome}
-use Rattle.state.specs.Queue.{waiting}
+use Rattle.state.specs.Queue.{places, waiting}
 use Rattle.state.specs.Rings.{txSize, rxSize}
 use Rattle.state.specs.Sending.{idle}
 use Rattle.state.specs.declared.Bridge.{Bridge}
@@ -47,7 +47,7 @@ pub record Accepted (b : Bridge) (tx rx : List ℕ) : Type 0 where
   pub tx-length : length tx ≡ txSize
   pub rx-length : length rx ≡ rxSize
   pub rules : sound b ≡ true
-  pub eight : length (b .sending .queue .places) ≡ 8
+  pub eight : length (b .sending .queue .places) ≡ places
 
 -- drained to rest with no note, in so many ticks
 pub record Rests (e : End) (n : ℕ) : Type 0 where

@@ -15,7 +15,7 @@ use Rattle.state.specs.declared.Bridge.{Bridge}
 use Rattle.state.specs.declared.Note.{Note}
 use Rattle.state.specs.declared.Note.the-variants.{Done, WrongStores, BrokenRecord}
 use Rattle.rules.specs.Sound.{sound}
-use Rattle.sender.specs.Sender.{mayStart}
+use Rattle.next.specs.Next.{mayStart}
 use Rattle.events.specs.Turn.{Out, turn}
 use Rattle.events.specs.declared.Event.the-variants.{Tick}
 use Rattle.drain.specs.declared.Drained.{Drained}

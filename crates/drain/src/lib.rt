@@ -18,8 +18,8 @@ pub struct Drained {
 fn at_rest(bridge: Bridge) -> bool
     ensures { λ r. ⌜ r ≡ atRest bridge ⌝ }
 {
-    let idle = state::is_idle(bridge.sending.sender);
-    let may = sender::may_start(bridge.control);
+    let idle = deeds::is_idle(bridge.sending.sender);
+    let may = next::may_start(bridge.control);
     let waits = bridge.sending.queue.begun < bridge.sending.queue.used;
     idle & !(may & waits)
 }
@@ -39,7 +39,7 @@ fn run(bridge: Bridge, tx: &mut [u16], rx: &mut [u16], budget: u32) -> Drained
                 note: Note::Done,
             };
         }
-        let answer = events::turn(b, tx, rx, Event::Tick(true));
+        let answer = quick::turn(b, tx, rx, Event::Tick(true));
         let note = answer.note;
         b = answer.state;
         ticks = ticks + 1;

@@ -16,7 +16,8 @@ use Rattle.registers.specs.Registers.{blocking, isNormal, rxff, powerUpFlags, p
 use Rattle.registers.specs.declared.Flags.{Flags}
 use Rattle.registers.specs.declared.Mode.{Mode}
 use Rattle.registers.specs.declared.Mode.the-variants.{Normal, Init, Failsafe}
-use Rattle.sender.specs.Sender.{mayStart, tickSender}
+use Rattle.next.specs.Next.{mayStart}
+use Rattle.sender.specs.Sender.{tickSender}
 use Rattle.sender.specs.declared.Sent.{Sent}
 use Rattle.state.specs.Power.{powerUp, badControl, powerUpBad}
 use Rattle.state.specs.declared.Bridge.{Bridge}
@@ -24,12 +25,15 @@ use Rattle.state.specs.declared.Phase.{Phase}
 use Rattle.state.specs.declared.Phase.the-variants.{Idle, Collecting, Answering, Discarding}
 use Rattle.state.specs.declared.Queue.{Queue}
 use Rattle.state.specs.declared.Receiving.{Receiving}
-use Rattle.kept.proofs.Control.{or-left, and-none, settled-control}
-use Rattle.kept.proofs.Tests.{or-true}
+use Rattle.base.specs.Truth.{or-left, and-none}
+use Rattle.kept.proofs.Control.{settled-control}
+use Rattle.base.specs.Truth.{or-true}
 use Rattle.rules.specs.Facts.{ControlRules}
-use Rattle.rules.specs.Sound.{otpSound, isUnmarked}
+use Rattle.frame_rules.specs.Frames.{otpSound, isUnmarked}
 use Rattle.state.specs.Frame.{isForward}
-use Rattle.events.specs.Events.{powered, blockedIn, withFlagsOf, starvedFlags, flagsSent, phaseAfter, controlTicked, tickEnds, tickHears, ticked, dogFires, watchFires, modeAt, flagsAt, controlAt, clocked}
+use Rattle.events.specs.Events.{powered}
+use Rattle.ticks.specs.Ticks.{blockedIn, withFlagsOf, starvedFlags, flagsSent, phaseAfter, controlTicked, tickEnds, tickHears, ticked}
+use Rattle.clock.specs.Clock.{dogFires, watchFires, modeAt, flagsAt, controlAt, clocked}
 
 abbrev Obeys : Bridge → Type 0
 Obeys b = ControlRules (b .control) (b .receiving .rx .count) (b .frame .phase)
@@ -98,7 +102,7 @@ sent-otp f s =
 
 -- "while a blocking flag is or was up during this frame": a starved tick marks an open forward
 blocked-marked : (p : Phase) → isUnmarked (blockedIn p) ≡ false
-unfolding blockedIn isForward isUnmarked
+unfolding blockedIn isUnmarked
 blocked-marked Idle = refl
 blocked-marked (Collecting Filler got sum mine released blocked) = refl
 blocked-marked (Collecting Malformed got sum mine released blocked) = refl
@@ -139,7 +143,7 @@ tick-control b sin w r =
 
 -- "NORMAL becomes FAILSAFE": INIT stays
 bitten-otp : (m : Mode) (otp bites : Bool) → (bites ≡ true → isNormal m ≡ true) → otpSound m otp ≡ true → otpSound (modeAt m bites) otp ≡ true
-unfolding modeAt isNormal otpSound pick
+unfolding modeAt pick
 bitten-otp Normal otp true n h = h
 bitten-otp Init otp true n h = cc (n refl)
 bitten-otp Failsafe otp true n h = h
@@ -158,11 +162,11 @@ clock-control b reading r =
     (rw (e .1) (r .marked))
 
 good-control : Obeys powerUp
-unfolding powerUp powerUpControl powerUpFlags otpSound isUnmarked blocking pick
+unfolding powerUp powerUpControl powerUpFlags isUnmarked blocking pick
 good-control = record { otp = refl; drdy = refl; marked = refl }
 
 bad-control : Obeys powerUpBad
-unfolding powerUpBad badControl powerUpControl powerUpFlags otpSound isUnmarked blocking pick
+unfolding powerUpBad badControl powerUpControl powerUpFlags isUnmarked blocking pick
 bad-control = record { otp = refl; drdy = refl; marked = refl }
 
 pub power-control : (good : Bool) → Obeys (powered good)

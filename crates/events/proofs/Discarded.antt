@@ -7,7 +7,7 @@ use borrow.Author.Tests.{not-true}
 use Rattle.base.specs.Pick.{pick}
 use Rattle.command.specs.Layouts.{Layout}
 use Rattle.host.specs.Frames.{plannedIn, planned}
-use Rattle.host.specs.Plan.{noAnswer, marked, settled, concluded, clearedAway, received, performed}
+use Rattle.plan.specs.Plan.{noAnswer, marked, settled, concluded, clearedAway, received, performed}
 use Rattle.registers.specs.declared.Control.{Control}
 use Rattle.state.specs.Rings.{ringAfter}
 use Rattle.state.specs.Sending.{stored, done}
@@ -17,9 +17,9 @@ use Rattle.state.specs.declared.Phase.{Phase}
 use Rattle.state.specs.declared.Phase.the-variants.{Discarding}
 use Rattle.state.specs.declared.Store.the-variants.{Keep}
 use Rattle.rules.specs.Facts.{ControlRules}
-use Rattle.rules.specs.Sound.{drdySound}
+use Rattle.frame_rules.specs.Frames.{drdySound}
 use Rattle.events.specs.Events.{hosted, reacted}
-use Rattle.events.specs.declared.Did.{Did}
+use Rattle.ticks.specs.declared.Did.{Did}
 use Rattle.events.specs.declared.Event.the-variants.{Word}
 
 -- DRDY that obeys its rule is settled already

@@ -1,6 +1,5 @@
 mod Laws
-mod Turns
-mod Between
+pub mod Turns
 pub mod Ticks
 pub mod Quiet
 pub mod Keeps

@@ -3,8 +3,9 @@ use mathlib.Core.Path.{_≡_, refl}
 use mathlib.Core.Bool.{Bool, true, false}
 use Prim.Native.Nat.{ℕ}
 use Rattle.base.specs.Pick.{pick, pick-keeps}
-use Rattle.events.specs.Events.{powered, watchFires, flagsAt, controlAt, clocked}
-use Rattle.host.specs.Plan.{settled}
+use Rattle.events.specs.Events.{powered}
+use Rattle.clock.specs.Clock.{watchFires, flagsAt, controlAt, clocked}
+use Rattle.plan.specs.Plan.{settled}
 use Rattle.rules.proofs.Facts.{power-up-sound, power-up-bad-sound}
 use Rattle.state.specs.Power.{powerUp, powerUpBad}
 use Rattle.state.specs.declared.Bridge.{Bridge}

@@ -6,15 +6,16 @@ use lib.Dec.{ltb, leb, eqb}
 use lib.ListN.{length}
 use borrow.Author.Tests.{not-true, eq-eqb}
 use Rattle.base.specs.Pick.{pick, and-l, and-r}
-use Rattle.events.specs.Events.{blockedIn, flagsSent, phaseAfter, controlTicked, tickEnds, tickHears, ticked}
+use Rattle.ticks.specs.Ticks.{blockedIn, flagsSent, phaseAfter, controlTicked, tickEnds, tickHears, ticked}
 use Rattle.command.specs.declared.Command.{Command}
 use Rattle.command.specs.declared.Command.the-variants.{Filler, Malformed, Forward, DataRead, RegisterWrite, RegisterRead, SoftReset}
-use Rattle.host.specs.Plan.{settled}
+use Rattle.plan.specs.Plan.{settled}
 use Rattle.line.specs.Reader.{hear}
 use Rattle.reader.specs.Reader.{tickReader}
 use Rattle.registers.specs.declared.Flags.{Flags}
 use Rattle.rules.specs.Sound.{sound}
-use Rattle.sender.specs.Sender.{mayStart, tickSender}
+use Rattle.next.specs.Next.{mayStart}
+use Rattle.sender.specs.Sender.{tickSender}
 use Rattle.sender.specs.declared.Sent.{Sent}
 use Rattle.state.specs.Frame.{isForward, mineOf, owedBy, toCome, forwardSound, collectSound, phaseSound}
 use Rattle.state.specs.declared.Bridge.{Bridge}
@@ -22,7 +23,7 @@ use Rattle.state.specs.declared.Phase.{Phase}
 use Rattle.state.specs.declared.Phase.the-variants.{Idle, Collecting, Answering, Discarding}
 use Rattle.state.specs.declared.Sending.{Sending}
 use Rattle.kept.proofs.Owed.{unreleased-owes-none, blocked-brings-none}
-use Rattle.kept.proofs.Tests.{or-true}
+use Rattle.base.specs.Truth.{or-true}
 use Rattle.kept.proofs.Sound.{sound-facts, facts-sound}
 use Rattle.kept.specs.Rules.{SendRules, BridgeRules}
 use Rattle.kept.proofs.Sender.{rules-requeued, tick-sender-keeps, tick-starved}
@@ -34,7 +35,7 @@ use Rattle.kept.proofs.Reader.{Takes, tick-reader-keeps, tick-reader-ear}
 
 -- a frame with words to bring is a forward that is released: blocked, it brings none
 pub blocked-owes-none : (p : Phase) → phaseSound p ≡ true → toCome (blockedIn p) ≡ 0
-unfolding phaseSound toCome blockedIn isForward collectSound
+unfolding phaseSound toCome blockedIn collectSound
 blocked-owes-none Idle s = refl
 blocked-owes-none (Collecting Filler got sum mine released blocked) s = cc
 blocked-owes-none (Collecting Malformed got sum mine released blocked) s = cc
@@ -67,7 +68,7 @@ forward-blocked crc words ends got mine released blocked m s =
     rw (within, none, plain, now)
 
 pub blocked-sound : (p : Phase) → mineOf p ≡ 0 → phaseSound p ≡ true → phaseSound (blockedIn p) ≡ true
-unfolding mineOf phaseSound blockedIn isForward collectSound
+unfolding mineOf phaseSound blockedIn collectSound
 blocked-sound Idle m s = s
 blocked-sound (Collecting Filler got sum mine released blocked) m s = s
 blocked-sound (Collecting Malformed got sum mine released blocked) m s = s

@@ -10,7 +10,7 @@ use Rattle.rules.specs.Sound.{sound}
 use Rattle.state.specs.declared.Bridge.{Bridge}
 use Rattle.events.specs.Events.{reacted}
 use Rattle.events.specs.declared.Answer.{Answer}
-use Rattle.events.specs.declared.Did.{Did}
+use Rattle.ticks.specs.declared.Did.{Did}
 use Rattle.events.specs.declared.Event.{Event}
 
 -- an answer and both stores as they are left

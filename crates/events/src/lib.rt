@@ -1,8 +1,5 @@
 // One event (01 What the bridge is): what its rule does to the state, and the cells that it writes. Only this crate touches the stores.
-mod clock;
-mod passing;
 mod react;
-mod tick;
 
 use state::Bridge;
 use state::Note;
@@ -32,16 +29,6 @@ pub struct Answer {
     pub note: Note,
 }
 
-// The same, with the words that it stores.
-pub struct Did {
-    pub bridge: Bridge,
-    pub sdo: u16,
-    pub sout: bool,
-    pub note: Note,
-    pub tx: Store,
-    pub rx: Store,
-}
-
 // A stored word goes to the ring's next cell; no other cell is written.
 fn write_cell(cells: &mut [u16], ring: Ring, store: Store)
     requires { ⌜ RingFit (length (now cells)) ring ⌝ }
@@ -59,7 +46,7 @@ fn write_cell(cells: &mut [u16], ring: Ring, store: Store)
 }
 
 // The event's rule and the cells that it writes.
-fn whole_turn(bridge: Bridge, tx: &mut [u16], rx: &mut [u16], event: Event) -> Answer
+pub fn turn(bridge: Bridge, tx: &mut [u16], rx: &mut [u16], event: Event) -> Answer
     requires { ⌜ Ready bridge (now tx) (now rx) ⌝ }
     ensures { λ r. ⌜ out r (now (tx .exit)) (now (rx .exit)) ≡ turnOf ours bridge (now (tx .entry)) (now (rx .entry)) event ⌝ }
 {
@@ -80,15 +67,4 @@ fn whole_turn(bridge: Bridge, tx: &mut [u16], rx: &mut [u16], event: Event) -> A
         sout: did.sout,
         note: note,
     }
-}
-
-// An event on stores of the right lengths and a record that obeys the rules.
-pub fn turn(bridge: Bridge, tx: &mut [u16], rx: &mut [u16], event: Event) -> Answer
-    requires { ⌜ Ready bridge (now tx) (now rx) ⌝ }
-    ensures { λ r. ⌜ out r (now (tx .exit)) (now (rx .exit)) ≡ turnOf ours bridge (now (tx .entry)) (now (rx .entry)) event ⌝ }
-{
-    if passing::passes(bridge, event) {
-        return passing::passed(bridge, event);
-    }
-    whole_turn(bridge, tx, rx, event)
 }

@@ -1,34 +1,21 @@
 // One rule an event: what it does to the state, what it says, and the words that it stores.
-use crate::Did;
 use crate::Event;
-use crate::clock::clocked;
-use crate::tick::ticked;
-use host::Plan;
+use clock::clocked;
+use plan::Plan;
 use state::Bridge;
 use state::Clock;
-use state::Note;
 use state::Store;
+use ticks::Did;
+use ticks::quietly;
+use ticks::ticked;
 ghost use mathlib.Core.Path.{_≡_};
 ghost use Rattle.command.specs.Layouts.{ours};
-ghost use Rattle.host.specs.Frames.{planned, releasedIn};
-ghost use Rattle.host.specs.Plan.{marked};
-ghost use Rattle.state.specs.Facts.{HostFit, SendFit, Doable};
+ghost use Rattle.host.specs.Frames.{planned};
+ghost use Rattle.release.specs.Release.{releasedIn};
+ghost use Rattle.plan.specs.Plan.{marked};
+ghost use Rattle.state.specs.Facts.{HostFit, Doable};
 ghost use Rattle.state.specs.Sending.{stored};
-ghost use Rattle.events.specs.Events.{powered as poweredOf, quietly as quietlyOf, hosted as hostedOf, reacted};
-
-// A state, with nothing on either line.
-pub fn quietly(bridge: Bridge) -> Did
-    ensures { λ r. ⌜ r ≡ quietlyOf bridge ⌝ }
-{
-    Did {
-        bridge: bridge,
-        sdo: 0xFFFF,
-        sout: true,
-        note: Note::Done,
-        tx: Store::Keep,
-        rx: Store::Keep,
-    }
-}
+ghost use Rattle.events.specs.Events.{powered as poweredOf, hosted as hostedOf, reacted};
 
 fn powered(good: bool) -> Bridge
     ensures { λ r. ⌜ r ≡ poweredOf good ⌝ }
@@ -45,7 +32,7 @@ fn hosted(bridge: Bridge, clock: Clock, plan: Plan) -> Did
     requires { ⌜ Doable (stored (bridge .sending) (plan .store)) (plan .deed) ⌝ }
     ensures { λ r. ⌜ r ≡ hostedOf ours bridge clock plan ⌝ }
 {
-    let after = host::performed(bridge, clock, plan);
+    let after = plan::performed(bridge, clock, plan);
     let note = plan.note;
     let store = plan.store;
     Did {
@@ -63,7 +50,7 @@ fn word_event(bridge: Bridge, word: u16, rx_oldest: u16) -> Did
     ensures { λ r. ⌜ r ≡ hostedOf ours bridge (marked (bridge .clock)) (planned ours bridge word «rx_oldest») ⌝ }
 {
     let plan = host::planned(bridge, word, rx_oldest);
-    let clock = host::marked(bridge.clock);
+    let clock = plan::marked(bridge.clock);
     hosted(bridge, clock, plan)
 }
 
@@ -71,7 +58,7 @@ fn release_event(bridge: Bridge) -> Did
     requires { ⌜ HostFit bridge ⌝ }
     ensures { λ r. ⌜ r ≡ hostedOf ours bridge (bridge .clock) (releasedIn bridge (bridge .frame .phase)) ⌝ }
 {
-    let plan = host::released(bridge);
+    let plan = release::released(bridge);
     let clock = bridge.clock;
     hosted(bridge, clock, plan)
 }

@@ -10,24 +10,9 @@ use Rattle.command.specs.declared.Command.the-variants.{Forward, RegisterWrite}
 use Rattle.state.specs.Frame.{dataWords, mineOf, forwardSound, collectSound, replySound, phaseSound}
 use Rattle.state.specs.Facts.{HostFit}
 use Rattle.state.specs.declared.Reply.{Reply}
-use Rattle.state.specs.declared.Reply.the-variants.{Registers}
 use Rattle.state.specs.declared.Phase.the-variants.{Collecting, Answering}
 use Rattle.state.specs.declared.Bridge.{Bridge}
 use borrow.Author.Tests.{ltb-true, leb-true}
-
--- the registers of a write exist
-pub spanned : (command : Command) (crc : Bool) (address count : ℕ)
-    → ((crc : Bool) (address count : ℕ) → command ≡ RegisterWrite crc address count → address + count ≤ 11)
-    → command ≡ RegisterWrite crc address count → address + count ≤ 11
-spanned command crc address count f h = f crc address count h
-
--- the registers of a read exist
-pub next-fits : (reply : Reply) (address left : ℕ) → replySound reply ≡ true → reply ≡ Registers address left → address < 65535
-unfolding replySound
-next-fits reply address left s h =
-    let t : (ltb 0 left && leb (address + left) 11) ≡ true = rw h at s in
-    let l : address + left ≤ 11 = leb-true _ _ (and-r (ltb 0 left) _ t) in
-    omega arith
 
 -- what a sound frame's command says of its words
 module _ (command : Command) (got mine : ℕ) (released blocked : Bool) (s : collectSound command got mine released blocked ≡ true) where
@@ -46,7 +31,6 @@ module _ (command : Command) (got mine : ℕ) (released blocked : Bool) (s : col
       leb-true _ _ (search (and-l, and-r) depth 30)
 
   pub register-room : (crc : Bool) (address count : ℕ) → command ≡ RegisterWrite crc address count → got < dataWords command → address + got < 11
-  unfolding dataWords
   register-room crc address count h g =
       let l : got < count = rw h at g in
       let m : address + count ≤ 11 = register-span crc address count h in

@@ -1,4 +1,4 @@
--- Arms of the command word, a data word and a host word, as the proofs of src/frames.rt ask them. Assumes nothing.
+-- Arms of the command word, a data word and a host word, as the proofs of src/lib.rt ask them. Assumes nothing.
 use mathlib.Core.Path.{_≡_, sym, _∙_, ap}
 use mathlib.Core.Bool.{Bool}
 use Prim.Native.Nat.{ℕ}
@@ -8,7 +8,7 @@ use Rattle.state.specs.declared.Phase.{Phase}
 use Rattle.state.specs.declared.Phase.the-variants.{Idle}
 use Rattle.state.specs.declared.Bridge.{Bridge}
 use Rattle.host.specs.Frames.{collects, opened, dataWord, plannedIn, planned}
-use Rattle.host.specs.declared.Plan.{Plan}
+use Rattle.plan.specs.declared.Plan.{Plan}
 
 -- an arm of the command word
 pub to-opened : (b : Bridge) (command k : Command) (sum : ℕ) (x : Plan) → command ≡ k → x ≡ opened b k sum → x ≡ opened b command sum

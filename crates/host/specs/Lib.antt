@@ -1,3 +1,1 @@
-pub mod Plan
-pub mod Forward
 pub mod Frames

@@ -1,76 +1,171 @@
-// The host's side (01 Frames): what a word and a release of chip select ask for. A rule answers a plan; the bridge carries it out in one
-// place.
-use registers::Control;
-use state::Deed;
+// A host word by the frame's phase (01 Frames; notes 3 and 4).
+ghost use mathlib.Core.Path.{_≡_};
+ghost use mathlib.Core.Bool.{true, false};
+ghost use Prim.Native.Nat.{_+_, _≤_, _<_};
+ghost use lib.Dec.{ltb, eqb};
+ghost use Rattle.base.specs.Pick.{pick};
+ghost use Rattle.command.specs.Layouts.{ours};
+ghost use Rattle.state.specs.Facts.{SendFit, HostFit};
+ghost use Rattle.state.specs.Frame.{dataWords, collectSound};
+ghost use Rattle.host.specs.Frames.{collects as collectsOf, opened as openedOf, dataWord, planned as plannedOf};
+ghost use Rattle.closing.specs.Closing.{crcDue};
+use answers::answered;
+use closing::crc_due;
+use command::Command;
+use forwards::Progress;
+use forwards::forward_begun;
+use forwards::forward_word;
+use plan::Plan;
+use plan::plain;
+use state::Bridge;
 use state::Note;
 use state::Phase;
-use state::Place;
-use state::Store;
+use writes::register_word;
 
-mod answers;
-mod closing;
-mod forward;
-mod frames;
-mod performing;
-mod plans;
-mod writes;
-
-pub use frames::planned;
-pub use frames::released;
-pub use performing::marked;
-pub use performing::performed;
-pub use performing::settled;
-
-// What a plan does to the receiving side: nothing; the oldest word read; the storing of the present command ended (a read of empty RX); RX
-// clear; soft reset.
-pub enum Receive {
-    LeaveRx,
-    PopRx,
-    StopRx,
-    EmptyRx,
-    ResetRx,
+fn collects(bridge: Bridge, command: Command, sum: u16) -> Plan
+    ensures { λ r. ⌜ r ≡ collectsOf bridge command sum ⌝ }
+{
+    let phase = Phase::Collecting {
+        command: command,
+        got: 0,
+        crc: sum,
+        mine: 0,
+        released: false,
+        blocked: false,
+    };
+    plain(bridge, phase, Note::Done)
 }
 
-// What a word or a release of chip select does. `status`: STATUS is answered, taken after all effects.
-pub struct Plan {
-    pub phase: Phase,
-    pub held: [u16; 11],
-    pub control: Control,
-    pub store: Store,
-    pub deed: Deed,
-    pub receive: Receive,
-    pub note: Note,
-    pub sdo: u16,
-    pub status: bool,
+// The command word.
+fn opened(bridge: Bridge, command: Command, sum: u16) -> Plan
+    ensures { λ r. ⌜ r ≡ openedOf bridge command sum ⌝ }
+{
+    match command {
+        Command::Filler => plain(bridge, Phase::Idle, Note::Done),
+        Command::Malformed => plain(bridge, Phase::Discarding, Note::MalformedWord),
+        Command::Forward {
+            crc,
+            words,
+            ends,
+            reads,
+        } => forward_begun(bridge, crc, words, ends, reads, sum),
+        Command::DataRead { crc: _, words: _ } => collects(bridge, command, sum),
+        Command::RegisterWrite {
+            crc: _,
+            address: _,
+            count: _,
+        } => collects(bridge, command, sum),
+        Command::RegisterRead {
+            crc: _,
+            address: _,
+            count: _,
+        } => collects(bridge, command, sum),
+        Command::SoftReset => collects(bridge, command, sum),
+    }
 }
 
-// What a forward asks: a word to store, and whether its command is to be queued.
-pub struct Wish {
-    pub store: Store,
-    pub release: bool,
-    pub place: Place,
+// A data word of a register write: `at` is before it, but for the CRC.
+fn register_data(
+    bridge: Bridge,
+    crc: bool,
+    address: u16,
+    count: u16,
+    at: Progress,
+    word: u16,
+) -> Plan
+    requires { ⌜ address + at .got < 11 ⌝ }
+    ensures { λ r. ⌜ r ≡ dataWord bridge (Command.RegisterWrite crc address count) (at .got) (at .crc) (at .mine) (at .released) (at .blocked) word ⌝ }
+{
+    let got = at.got;
+    let phase = Phase::Collecting {
+        command: Command::RegisterWrite {
+            crc: crc,
+            address: address,
+            count: count,
+        },
+        got: got + 1,
+        crc: at.crc,
+        mine: at.mine,
+        released: at.released,
+        blocked: at.blocked,
+    };
+    register_word(bridge, crc, address, got, phase, word)
 }
 
-// What is granted of a wish.
-pub struct Granted {
-    pub store: Store,
-    pub deed: Deed,
-    pub note: Note,
+// A data word; only forwards and register writes have them.
+fn data_word(bridge: Bridge, command: Command, at: Progress, word: u16) -> Plan
+    requires { ⌜ (SendFit (bridge .sending)) × (at .mine ≤ bridge .sending .tx .count) × (collectSound command (at .got) (at .mine) (at .released) (at .blocked) ≡ true) × (at .got < dataWords command) ⌝ }
+    ensures { λ r. ⌜ r ≡ dataWord bridge command (at .got) (at .crc) (at .mine) (at .released) (at .blocked) word ⌝ }
+{
+    match command {
+        Command::Filler => plain(bridge, Phase::Idle, Note::Done),
+        Command::Malformed => plain(bridge, Phase::Idle, Note::Done),
+        Command::Forward {
+            crc,
+            words,
+            ends,
+            reads,
+        } => forward_word(bridge, crc, words, ends, reads, at, word),
+        Command::DataRead { crc: _, words: _ } => plain(bridge, Phase::Idle, Note::Done),
+        Command::RegisterWrite {
+            crc,
+            address,
+            count,
+        } => register_data(bridge, crc, address, count, at, word),
+        Command::RegisterRead {
+            crc: _,
+            address: _,
+            count: _,
+        } => plain(bridge, Phase::Idle, Note::Done),
+        Command::SoftReset => plain(bridge, Phase::Idle, Note::Done),
+    }
 }
 
-// What the writes of a frame did, all together.
-pub struct Effects {
-    pub control: Control,
-    pub clears_tx: bool,
-    pub clears_rx: bool,
-    pub refused: bool,
+// A data word or the CRC word.
+fn collected(bridge: Bridge, command: Command, at: Progress, word: u16) -> Plan
+    requires { ⌜ (SendFit (bridge .sending)) × (at .mine ≤ bridge .sending .tx .count) × (collectSound command (at .got) (at .mine) (at .released) (at .blocked) ≡ true) ⌝ }
+    ensures { λ r. ⌜ r ≡ pick (ltb (at .got) (dataWords command)) (dataWord bridge command (at .got) (ours .crcStep (at .crc) word) (at .mine) (at .released) (at .blocked) word) (crcDue ours bridge command (at .mine) (at .blocked) (eqb word (at .crc))) ⌝ }
+{
+    if state::is_due(command, at.got) {
+        let crc = crc16::crc_word(at.crc, word);
+        let mut now = at;
+        now.crc = crc;
+        return data_word(bridge, command, now, word);
+    }
+    crc_due(bridge, command, at.mine, at.blocked, word == at.crc)
 }
 
-// How far an open frame has come: what `state::Phase::Collecting` keeps beside the command.
-pub(crate) struct Progress {
-    pub(crate) got: u16,
-    pub(crate) crc: u16,
-    pub(crate) mine: u16,
-    pub(crate) released: bool,
-    pub(crate) blocked: bool,
+// A host word; `rx_oldest` is the oldest word of RX.
+pub fn planned(bridge: Bridge, word: u16, rx_oldest: u16) -> Plan
+    requires { ⌜ HostFit bridge ⌝ }
+    ensures { λ r. ⌜ r ≡ plannedOf ours bridge word «rx_oldest» ⌝ }
+{
+    let frame = bridge.frame;
+    let phase = frame.phase;
+    match phase {
+        Phase::Idle => opened(
+            bridge,
+            command::decode(word),
+            crc16::crc_word(crc16::START, word),
+        ),
+        Phase::Collecting {
+            command,
+            got,
+            crc,
+            mine,
+            released,
+            blocked,
+        } => {
+            let at = Progress {
+                got: got,
+                crc: crc,
+                mine: mine,
+                released: released,
+                blocked: blocked,
+            };
+            collected(bridge, command, at, word)
+        }
+        Phase::Answering { reply, crc } => answered(bridge, reply, crc, rx_oldest),
+        Phase::Discarding => plain(bridge, Phase::Discarding, Note::Discarded),
+    }
 }

@@ -10,15 +10,20 @@ use Rattle.base.specs.Pick.{pick, pick-keeps}
 use Rattle.command.specs.Layouts.{Layout}
 use Rattle.command.specs.declared.Command.{Command}
 use Rattle.command.specs.declared.Command.the-variants.{Filler, Malformed, Forward, DataRead, RegisterWrite, RegisterRead, SoftReset}
-use Rattle.host.specs.Forward.{guard, faulted, clears, forwarded, forwardWord, forwardBegun}
-use Rattle.host.specs.Frames.{opened, effected, withWrite, writeAll, noEffects, heldWord, registerWord, dataWord, wrongCrc, forwardClosed, registersClosed, readClosed, resetClosed, crcDue, answerWith, dataAnswered, registerAnswered, answered, plannedIn, planned, cutDeed, cut, releasedIn}
-use Rattle.host.specs.Plan.{noAnswer, plain, settled, concluded, performed}
-use Rattle.host.specs.declared.Effects.{Effects}
-use Rattle.host.specs.declared.Granted.{Granted}
-use Rattle.host.specs.declared.Plan.{Plan}
-use Rattle.host.specs.declared.Receive.{Receive}
-use Rattle.host.specs.declared.Receive.the-variants.{LeaveRx, PopRx, StopRx, EmptyRx, ResetRx}
-use Rattle.host.specs.declared.Wish.{Wish}
+use Rattle.forwards.specs.Forward.{guard, faulted, clears, forwarded, forwardWord, forwardBegun}
+use Rattle.host.specs.Frames.{opened, dataWord, plannedIn, planned}
+use Rattle.release.specs.Release.{releasedIn}
+use Rattle.writes.specs.Writes.{effected, withWrite, writeAll, noEffects, heldWord, registerWord}
+use Rattle.closing.specs.Closing.{wrongCrc, forwardClosed, registersClosed, readClosed, resetClosed, crcDue}
+use Rattle.release.specs.Release.{cutDeed, cut}
+use Rattle.answers.specs.Answers.{answerWith, dataAnswered, registerAnswered, answered}
+use Rattle.plan.specs.Plan.{noAnswer, plain, settled, concluded, performed}
+use Rattle.writes.specs.declared.Effects.{Effects}
+use Rattle.forwards.specs.declared.Granted.{Granted}
+use Rattle.plan.specs.declared.Plan.{Plan}
+use Rattle.plan.specs.declared.Receive.{Receive}
+use Rattle.plan.specs.declared.Receive.the-variants.{LeaveRx, PopRx, StopRx, EmptyRx, ResetRx}
+use Rattle.forwards.specs.declared.Wish.{Wish}
 use Rattle.registers.specs.Raising.{raised, raisedIn}
 use Rattle.registers.specs.Registers.{cleared, blocking, isNormal, isFailsafe, rxff}
 use Rattle.registers.specs.Writing.{withRegs, modeAfter, writeCcsictrl, writeTxfflvl, writeRxfflvl, writeStatus, writeMasked, writeOf}
@@ -40,9 +45,9 @@ use Rattle.state.specs.declared.Phase.the-variants.{Idle, Collecting, Answering
 use Rattle.state.specs.declared.Reply.{Reply}
 use Rattle.state.specs.declared.Reply.the-variants.{Status, Data, Registers, Check}
 use Rattle.rules.specs.Facts.{ControlRules}
-use Rattle.rules.specs.Sound.{otpSound, drdySound, isUnmarked}
+use Rattle.frame_rules.specs.Frames.{otpSound, drdySound, isUnmarked}
 use Rattle.state.specs.Frame.{isForward}
-use Rattle.kept.proofs.Tests.{or-true}
+use Rattle.base.specs.Truth.{or-true, or-left, and-none, and-not}
 
 -- 1. DRDY, which is settled after each event.
 
@@ -99,18 +104,6 @@ pub record Rises (b : Bridge) (p : Plan) : Type 0 where
   pub hears : rxff (p .control .flags) ≡ true → (rxff (b .control .flags) || stops (p .receive)) ≡ true
   pub resets : isReset (p .deed) ≡ true → p .receive ≡ ResetRx
 
--- tests joined
-pub or-left : (a b : Bool) → a ≡ true → (a || b) ≡ true
-or-left a b h = rw h
-
-pub and-none : (a b : Bool) → b ≡ false → (a && b) ≡ false
-and-none true b h = h
-and-none false b h = refl
-
-and-not : (a : Bool) → (a && not a) ≡ false
-and-not true = refl
-and-not false = refl
-
 -- 3. What raises neither a blocking flag nor an RX flag.
 
 record Tame (c d : Control) : Type 0 where
@@ -134,7 +127,7 @@ tame-raised c n e f = record { otp = λ h. unfold raised in h; blocks = λ h. sy
 
 -- "Bad OTP stays in INIT"
 mode-otp : (m : Mode) (otp : Bool) (v : ℕ) → otpSound m otp ≡ true → otpSound (modeAfter m v) otp ≡ true
-unfolding modeAfter isNormal isFailsafe otpSound
+unfolding modeAfter
 mode-otp Normal otp v h = pick-keeps (λ (m : Mode). otpSound m otp ≡ true) _ _ _ (λ e. h) (λ e. unfold pick in h)
 mode-otp Init otp v h = unfold pick in h
 mode-otp Failsafe otp v h = unfold pick in pick-keeps (λ (m : Mode). otpSound m otp ≡ true) (bit 0 v) Normal Failsafe (λ e. h) (λ e. h)
@@ -208,7 +201,7 @@ module _ (b : Bridge) (o : otpSound (b .control .mode) (b .control .flags .otp) 
   forwarded-rises : (crc : Bool) (words ends : ℕ) (reads : Bool) (got sum mine : ℕ) (released blocked : Bool) (g : Granted)
       → (blocking (b .control .flags) && not blocked) ≡ false → Pays (b .control) g
       → Rises b (forwarded b (Forward crc words ends reads) got sum mine released blocked g)
-  unfolding forwarded isUnmarked isForward
+  unfolding forwarded isUnmarked
   forwarded-rises crc words ends reads got sum mine released blocked g m y = record {
     otp = y .otp o;
     marked = go (blocking (faulted (b .control) (g .note) .flags)) (blocking (b .control .flags)) (clears (g .deed)) (y .blocks) m;
@@ -225,7 +218,7 @@ module _ (b : Bridge) (o : otpSound (b .control .mode) (b .control .flags .otp) 
 
   -- a blocking flag that "is .. up during this frame" marks it at once
   opened-rises : (c : Command) (sum : ℕ) → Rises b (opened b c sum)
-  unfolding opened forwardBegun isUnmarked isForward
+  unfolding opened forwardBegun isUnmarked
   opened-rises Filler sum = plain-rises _ _ refl
   opened-rises Malformed sum = plain-rises _ _ refl
   opened-rises (Forward crc words ends reads) sum =
@@ -249,7 +242,7 @@ module _ (b : Bridge) (o : otpSound (b .control .mode) (b .control .flags .otp) 
 
   data-word-rises : (c : Command) (got sum mine : ℕ) (released blocked : Bool) (w : ℕ)
       → (blocking (b .control .flags) && (isForward c && not blocked)) ≡ false → Rises b (dataWord b c got sum mine released blocked w)
-  unfolding dataWord forwardWord isUnmarked isForward
+  unfolding dataWord forwardWord isUnmarked
   data-word-rises Filler got sum mine released blocked w m = plain-rises _ _ refl
   data-word-rises Malformed got sum mine released blocked w m = plain-rises _ _ refl
   data-word-rises (Forward crc words ends reads) got sum mine released blocked w m =

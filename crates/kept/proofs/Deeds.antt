@@ -92,7 +92,7 @@ head-stays r Keep = refl
 head-stays r (Put w) = refl
 
 pub rules-cleared : (s : Sending) (st : Store) (c m : ℕ) → SendRules s c m → SendRules (done (stored s st) ClearAll) 0 0
-unfolding done stored owing pieceLength
+unfolding done stored owing
 rules-cleared s st c m r = record {
   tx = record { head = rw (head-stays (s .tx) st) (r .tx .head); count = omega arith };
   queue = fit-emptied (s .queue) (r .queue);

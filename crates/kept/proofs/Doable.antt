@@ -7,11 +7,16 @@ use Rattle.base.specs.Pick.{pick, pick-keeps}
 use Rattle.command.specs.Layouts.{Layout}
 use Rattle.command.specs.declared.Command.{Command}
 use Rattle.command.specs.declared.Command.the-variants.{Filler, Malformed, Forward, DataRead, RegisterWrite, RegisterRead, SoftReset}
-use Rattle.host.specs.Forward.{guard, forwarded, forwardWord, forwardBegun}
-use Rattle.host.specs.Frames.{opened, heldWord, registerWord, dataWord, wrongCrc, forwardClosed, registersClosed, readClosed, resetClosed, crcDue, answerWith, dataAnswered, registerAnswered, answered, plannedIn, planned, cutDeed, cut, releasedIn}
-use Rattle.host.specs.declared.Granted.{Granted}
-use Rattle.host.specs.declared.Plan.{Plan}
-use Rattle.host.specs.declared.Wish.{Wish}
+use Rattle.forwards.specs.Forward.{guard, forwarded, forwardWord, forwardBegun}
+use Rattle.host.specs.Frames.{opened, dataWord, plannedIn, planned}
+use Rattle.release.specs.Release.{releasedIn}
+use Rattle.writes.specs.Writes.{heldWord, registerWord}
+use Rattle.closing.specs.Closing.{wrongCrc, forwardClosed, registersClosed, readClosed, resetClosed, crcDue}
+use Rattle.release.specs.Release.{cutDeed, cut}
+use Rattle.answers.specs.Answers.{answerWith, dataAnswered, registerAnswered, answered}
+use Rattle.forwards.specs.declared.Granted.{Granted}
+use Rattle.plan.specs.declared.Plan.{Plan}
+use Rattle.forwards.specs.declared.Wish.{Wish}
 use Rattle.state.specs.Facts.{HostFit, Doable}
 use Rattle.state.specs.Frame.{mineOf}
 use Rattle.state.specs.Rings.{ringAfter}

@@ -7,8 +7,8 @@ use lib.Dec.{ltb, leb, eqb}
 use borrow.Author.Tests.{leb-true, leb-false, eqb-true, lt-ltb, le-leb, eq-eqb}
 use Rattle.base.specs.Pick.{pick, pick-keeps, and-l, and-r}
 use Rattle.command.specs.declared.Command.the-variants.{Forward}
-use Rattle.host.specs.Forward.{wish, granted, asksStore, guard, mineAfter, enqueues, clears}
-use Rattle.host.specs.declared.Granted.{Granted}
+use Rattle.forwards.specs.Forward.{wish, granted, asksStore, guard, mineAfter, enqueues, clears}
+use Rattle.forwards.specs.declared.Granted.{Granted}
 use Rattle.state.specs.Frame.{dataWords, mineOf, owedBy, toCome, forwardSound, collectSound, phaseSound}
 use Rattle.state.specs.Queue.{newPlace}
 use Rattle.state.specs.Rings.{ringAfter}
@@ -21,11 +21,11 @@ use Rattle.state.specs.declared.Phase.the-variants.{Idle, Collecting}
 use Rattle.state.specs.declared.Sending.{Sending}
 use Rattle.state.specs.declared.Store.{Store}
 use Rattle.state.specs.declared.Store.the-variants.{Keep, Put}
-use Rattle.rules.specs.Sound.{waits}
+use Rattle.place_rules.specs.Places.{waits}
 use Rattle.kept.proofs.Stands.{Asks}
 use Rattle.kept.proofs.Deeds.{rules-none, rules-put-mine, rules-put-owed, rules-enqueued, rules-cleared}
 use Rattle.kept.specs.Rules.{SendRules}
-use Rattle.kept.proofs.Tests.{or-true}
+use Rattle.base.specs.Truth.{or-true}
 use Rattle.kept.proofs.Owed.{blocked-brings-none}
 
 -- A word stored or none, then a deed, and the phase after them: rules kept.
@@ -126,7 +126,7 @@ module _ (s : Sending) (crc : Bool) (words ends : ℕ) (reads : Bool) where
   -- a word of a released forward goes to its place
   word-sent : (got sum mine w : ℕ) → Owes got mine true false → Fit got mine true false → got < words → s .tx .count < 512
       → Leaves s (Put w) Leave (Collects (got + 1) sum mine true false)
-  unfolding done toCome mineOf phaseSound collectSound owedBy pick dataWords
+  unfolding done toCome mineOf phaseSound collectSound owedBy pick
   word-sent got sum mine w r f h c =
       let e : words - got ≡ suc (words - (got + 1)) = omega arith in
       record {
@@ -166,7 +166,7 @@ module _ (s : Sending) (crc : Bool) (words ends : ℕ) (reads : Bool) where
   -- a word that releases
   word-queued : (got sum mine w : ℕ) → Owes got mine false false → Fit got mine false false → got < words → s .tx .count < 512
       → s .queue .used < 8 → crc ≡ false → Leaves s (Put w) (Enqueue (newPlace words ends reads)) (Collects (got + 1) sum 0 true false)
-  unfolding toCome mineOf phaseSound collectSound owedBy pick dataWords newPlace
+  unfolding toCome mineOf phaseSound collectSound owedBy pick newPlace
   word-queued got sum mine w r f h c u k = record {
     sending =
         rules-enqueued (stored s (Put w)) (newPlace words ends reads) (words - (got + 1)) (mine + 1) (rules-put-mine s w mine r c) (unfold stored in u) (f .words-most)
@@ -231,7 +231,7 @@ module _ (s : Sending) (crc : Bool) (words ends : ℕ) (reads : Bool) where
 
   begun-queued : (sum : ℕ) → SendRules s 0 0 → words ≡ 0 → ends ≤ 127 → 0 < ends → s .queue .used < 8 → crc ≡ false
       → Leaves s Keep (Enqueue (newPlace words ends reads)) (Collects 0 sum 0 true false)
-  unfolding toCome mineOf phaseSound collectSound owedBy pick dataWords newPlace stored ringAfter
+  unfolding toCome mineOf phaseSound collectSound owedBy pick newPlace stored ringAfter
   begun-queued sum r w e n u k = record {
     sending = rules-enqueued s (newPlace words ends reads) (words - 0) 0 r u (omega arith) e (omega arith) (omega arith);
     phase = forward-passes crc words ends 0 0 true false (record {

@@ -9,14 +9,15 @@ use lib.ListN.{length, take}
 use borrow.Author.Tests.{ltb-true, ltb-false, lt-ltb, eqb-true, eqb-false, not-true}
 use Rattle.base.specs.Pick.{pick, pick-keeps, and-l, and-r}
 use Rattle.rules.specs.Facts.{Standing}
-use Rattle.rules.specs.Sound.{waits, awaits, lastBegun, isUnread}
+use Rattle.place_rules.specs.Places.{waits, awaits}
+use Rattle.line_rules.specs.Line.{lastBegun, isUnread}
 use Rattle.state.specs.Facts.{QueueFit}
 use Rattle.state.specs.Queue.{placeAt, withPlace, underWay, freed, firstUnread, claimed, isDone, returned}
 use Rattle.state.specs.declared.Place.{Place}
 use Rattle.state.specs.declared.Queue.{Queue}
 use Rattle.state.specs.declared.Returned.{Returned}
 use Rattle.kept.proofs.Queue.{begun-freed, used-freed}
-use Rattle.kept.proofs.Tests.{never}
+use Rattle.base.specs.Truth.{never}
 use Rattle.kept.proofs.Standing.{awaits-sent, awaits-undone, other-place, same-place, freed-below, freed-above, Steady, Unread, unread-by, unread-begun}
 
 -- 1. The command under way is sent.

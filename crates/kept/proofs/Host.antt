@@ -10,10 +10,15 @@ use Rattle.base.specs.Pick.{pick, pick-keeps, and-l, and-r, and-both}
 use Rattle.command.specs.Layouts.{Layout}
 use Rattle.command.specs.declared.Command.{Command}
 use Rattle.command.specs.declared.Command.the-variants.{Filler, Malformed, Forward, DataRead, RegisterWrite, RegisterRead, SoftReset}
-use Rattle.host.specs.Forward.{faulted, forwarded, forwardWord, forwardBegun}
-use Rattle.host.specs.Frames.{collects, opened, effected, withWrite, writeAll, noEffects, heldWord, registerWord, dataWord, wrongCrc, forwardClosed, registersClosed, readClosed, resetClosed, crcDue, answerWith, dataAnswered, registerAnswered, answered, plannedIn, planned, cutDeed, cut, releasedIn}
-use Rattle.host.specs.Plan.{performed}
-use Rattle.host.specs.declared.Effects.{Effects}
+use Rattle.forwards.specs.Forward.{faulted, forwarded, forwardWord, forwardBegun}
+use Rattle.host.specs.Frames.{collects, opened, dataWord, plannedIn, planned}
+use Rattle.release.specs.Release.{releasedIn}
+use Rattle.writes.specs.Writes.{effected, withWrite, writeAll, noEffects, heldWord, registerWord}
+use Rattle.closing.specs.Closing.{wrongCrc, forwardClosed, registersClosed, readClosed, resetClosed, crcDue}
+use Rattle.release.specs.Release.{cutDeed, cut}
+use Rattle.answers.specs.Answers.{answerWith, dataAnswered, registerAnswered, answered}
+use Rattle.plan.specs.Plan.{performed}
+use Rattle.writes.specs.declared.Effects.{Effects}
 use Rattle.registers.proofs.Laws.{write-sound}
 use Rattle.registers.specs.Registers.{regsSound, blocking}
 use Rattle.registers.specs.declared.Control.{Control}
@@ -36,7 +41,7 @@ use Rattle.kept.proofs.Deeds.{rules-none, rules-taken-back, rules-clear
 use Rattle.kept.proofs.Fits.{commandFits, LayoutFit}
 use Rattle.kept.proofs.Forward.{Leaves, ForwardFit, forward-facts, word-goes, begun-goes, closed-goes}
 use Rattle.kept.proofs.Control.{planned-rises, released-rises}
-use Rattle.kept.proofs.Tests.{never}
+use Rattle.base.specs.Truth.{never}
 use Rattle.kept.proofs.Perform.{PlanRules, performed-keeps}
 use Rattle.kept.specs.Rules.{SendRules, BridgeRules}
 use Rattle.kept.proofs.Owed.{unreleased-owes-none}
@@ -248,7 +253,7 @@ module _ (b : Bridge) (g : regsSound (b .control .regs) ≡ true) where
 
   data-word-rules : (c : Command) (got sum mine : ℕ) (released blocked : Bool) (w : ℕ) → SendRules (b .sending) (owedBy c got released blocked) mine
       → collectSound c got mine released blocked ≡ true → got < dataWords c → PlanRules b (dataWord b c got sum mine released blocked w)
-  unfolding dataWord forwardWord forwarded dataWords
+  unfolding dataWord forwardWord forwarded
   data-word-rules Filler got sum mine released blocked w r s h = absurd (omega arith)
   data-word-rules Malformed got sum mine released blocked w r s h = absurd (omega arith)
   data-word-rules (Forward crc words ends reads) got sum mine released blocked w r s h =
@@ -322,7 +327,7 @@ module _ (b : Bridge) (g : regsSound (b .control .regs) ≡ true) where
   crc-due-rules : (l : Layout) (c : Command) (got mine : ℕ) (released blocked right : Bool)
       → SendRules (b .sending) (owedBy c got released blocked) mine → collectSound c got mine released blocked ≡ true → dataWords c ≤ got
       → PlanRules b (crcDue l b c mine blocked right)
-  unfolding crcDue collectSound dataWords replySound
+  unfolding crcDue collectSound replySound
   crc-due-rules l c got mine released blocked right r s h = go c (rw (whole-owes-none c got released blocked h) at r) s h
     where
       bare : eqb mine 0 ≡ true → SendRules (b .sending) 0 mine → SendRules (b .sending) 0 0

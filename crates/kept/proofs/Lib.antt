@@ -1,4 +1,3 @@
-pub mod Tests
 pub mod Owed
 pub mod Sound
 pub mod Queue

@@ -7,11 +7,12 @@ use lib.Dec.{ltb}
 use lib.ListN.{length}
 use borrow.Author.Tests.{ltb-true, not-true}
 use Rattle.base.specs.Pick.{pick, pick-keeps, and-l, and-r, and-both}
-use Rattle.host.specs.Frames.{isQuiet}
-use Rattle.host.specs.Plan.{clearedAway, received}
-use Rattle.host.specs.declared.Plan.{Plan}
-use Rattle.host.specs.declared.Receive.{Receive}
-use Rattle.host.specs.declared.Receive.the-variants.{LeaveRx, PopRx, StopRx, EmptyRx, ResetRx}
+use Rattle.base.specs.Truth.{or-end}
+use Rattle.writes.specs.Writes.{isQuiet}
+use Rattle.plan.specs.Plan.{clearedAway, received}
+use Rattle.plan.specs.declared.Plan.{Plan}
+use Rattle.plan.specs.declared.Receive.{Receive}
+use Rattle.plan.specs.declared.Receive.the-variants.{LeaveRx, PopRx, StopRx, EmptyRx, ResetRx}
 use Rattle.line.specs.Reader.{heard, runOn, shiftIn, atCheck, inGroup, inLost, hear}
 use Rattle.line.specs.declared.Ear.{Ear}
 use Rattle.line.specs.declared.Ear.the-variants.{Quiet, Group, Lost}
@@ -25,7 +26,7 @@ use Rattle.registers.specs.Registers.{rxff}
 use Rattle.registers.specs.declared.Flag.the-variants.{CheckBit}
 use Rattle.registers.specs.declared.Flags.{Flags}
 use Rattle.rules.specs.Facts.{Standing}
-use Rattle.rules.specs.Sound.{isUnread, heardMarks, marksSound}
+use Rattle.line_rules.specs.Line.{isUnread, heardMarks, marksSound}
 use Rattle.state.specs.Facts.{QueueFit}
 use Rattle.state.specs.Queue.{placeAt, claimed, queued, returned}
 use Rattle.state.specs.Sending.{stored, done}
@@ -43,10 +44,6 @@ use Rattle.kept.proofs.Freed.{read-steady, claim-first}
 use Rattle.kept.proofs.Stands.{Asks}
 use Rattle.kept.proofs.Standing.{Alike, Steady, Unread, steady-same, unread-same, marked-steady, marked-unread, queued-unread, unread-begun}
 use Rattle.kept.specs.Rules.{BridgeRules}
-
-or-none : (a : Bool) → (a || false) ≡ true → a ≡ true
-or-none true h = refl
-or-none false h = h
 
 -- 1. Marks with another queue and other flags.
 
@@ -127,8 +124,8 @@ deed-marks r s st ResetAll f g l t a n h = cc
 received-marks : (r : Receiving) (v : Receive) (q : Queue) (f g : Flags) → (rxff g ≡ true → (rxff f || stops v) ≡ true) → Marked r q f
     → Marked (received r v) q g
 unfolding received stops marksSound
-received-marks r LeaveRx q f g x h = marks-carried (r .reader .ear) (r .reader) q q f g (unread-same q) (λ y. or-none (rxff f) (x y)) h
-received-marks r PopRx q f g x h = marks-carried (r .reader .ear) (r .reader) q q f g (unread-same q) (λ y. or-none (rxff f) (x y)) h
+received-marks r LeaveRx q f g x h = marks-carried (r .reader .ear) (r .reader) q q f g (unread-same q) (λ y. or-end (rxff f) (x y)) h
+received-marks r PopRx q f g x h = marks-carried (r .reader .ear) (r .reader) q q f g (unread-same q) (λ y. or-end (rxff f) (x y)) h
 received-marks r StopRx q f g x h = marks-stopped (r .reader .ear) (r .reader) q f g h
 received-marks r EmptyRx q f g x h = marks-stopped (r .reader .ear) (r .reader) q f g h
 received-marks r ResetRx q f g x h = refl

@@ -6,13 +6,13 @@ use native.Mathlib.Omega.{arith}
 use Rattle.base.specs.Bits.{bit}
 use Rattle.base.specs.Pick.{pick, pick-keeps}
 use Rattle.command.specs.Layouts.{Layout}
-use Rattle.host.specs.Plan.{clearedAway, received, settled, concluded, performed}
-use Rattle.host.specs.declared.Plan.{Plan}
-use Rattle.host.specs.declared.Receive.{Receive}
-use Rattle.host.specs.declared.Receive.the-variants.{LeaveRx, PopRx, StopRx, EmptyRx, ResetRx}
+use Rattle.plan.specs.Plan.{clearedAway, received, settled, concluded, performed}
+use Rattle.plan.specs.declared.Plan.{Plan}
+use Rattle.plan.specs.declared.Receive.{Receive}
+use Rattle.plan.specs.declared.Receive.the-variants.{LeaveRx, PopRx, StopRx, EmptyRx, ResetRx}
 use Rattle.registers.specs.Registers.{regsSound, statusOf}
 use Rattle.registers.specs.declared.Control.{Control}
-use Rattle.rules.specs.Sound.{earSound}
+use Rattle.line_rules.specs.Line.{earSound}
 use Rattle.state.specs.Facts.{RingFit}
 use Rattle.state.specs.Frame.{mineOf, toCome, replySound, phaseSound}
 use Rattle.state.specs.declared.Bridge.{Bridge}

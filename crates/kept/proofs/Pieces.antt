@@ -11,7 +11,7 @@ use Rattle.line.specs.Format.{pieceLength}
 use Rattle.line.specs.declared.Piece.{Piece}
 use Rattle.line.specs.declared.Piece.the-variants.{Pause, StartBit, WordPiece, EndPiece}
 use Rattle.rules.specs.Facts.{SenderFit}
-use Rattle.rules.specs.Sound.{pieceSound, lastBegun}
+use Rattle.line_rules.specs.Line.{pieceSound, lastBegun}
 use Rattle.state.specs.Queue.{underWay}
 use Rattle.state.specs.declared.Queue.{Queue}
 use Rattle.state.specs.declared.Sender.{Sender}
@@ -61,7 +61,7 @@ module _ (gone left ends : ℕ) (busy : Bool) (words extra : ℕ) where
   -- the next bit of the piece
   pub piece-goes-on : (u : Piece) → pieceSound u gone left ends busy words extra ≡ true → gone < pieceLength u
       → pieceSound u (gone + 1) left ends busy words extra ≡ true
-  unfolding pieceSound pieceLength
+  unfolding pieceSound
   piece-goes-on Pause h g = absurd (omega arith)
   piece-goes-on StartBit h g = let a : gone ≡ 1 = eqb-true _ _ (search (and-l, and-r)) in absurd (omega arith)
   piece-goes-on (WordPiece w) h g =

@@ -16,7 +16,7 @@ use Rattle.line.specs.declared.Heard.{Heard}
 use Rattle.reader.specs.Reader.{isClaim, began, wordRead, errorRead, endRead, wordTaken, atEnd, ended, takenBy, tickReader}
 use Rattle.reader.specs.declared.Taken.{Taken}
 use Rattle.registers.specs.declared.Flags.{Flags}
-use Rattle.rules.specs.Sound.{earSound}
+use Rattle.line_rules.specs.Line.{earSound}
 use Rattle.state.specs.Facts.{RingFit, QueueFit}
 use Rattle.state.specs.Queue.{claimed}
 use Rattle.state.specs.declared.Queue.{Queue}

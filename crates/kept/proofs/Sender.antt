@@ -9,9 +9,10 @@ use lib.ListN.{length}
 use borrow.Author.Tests.{ltb-true, ltb-false}
 use Rattle.base.specs.Pick.{pick, pick-keeps, and-l, and-r}
 use Rattle.line.specs.Format.{pieceLength}
-use Rattle.sender.specs.Sender.{choose, wordSent, queueSent, senderAfter, advanced, placeSent, finished, isStarve, sentBy, tickSender}
-use Rattle.sender.specs.declared.Next.{Next}
-use Rattle.sender.specs.declared.Next.the-variants.{GoOn, LoadWord, Starve, LoadEnd, StartWords, StartEnds, Stay}
+use Rattle.next.specs.Next.{choose, isStarve}
+use Rattle.sender.specs.Sender.{wordSent, queueSent, senderAfter, advanced, placeSent, finished, sentBy, tickSender}
+use Rattle.next.specs.declared.Next.{Next}
+use Rattle.next.specs.declared.Next.the-variants.{GoOn, LoadWord, Starve, LoadEnd, StartWords, StartEnds, Stay}
 use Rattle.state.specs.Facts.{QueueFit}
 use Rattle.state.specs.Queue.{placeAt, waiting, wordsOf}
 use Rattle.state.specs.Sending.{idle}
@@ -19,7 +20,7 @@ use Rattle.state.specs.declared.Place.{Place}
 use Rattle.state.specs.declared.Queue.{Queue}
 use Rattle.state.specs.declared.Returned.{Returned}
 use Rattle.state.specs.declared.Sending.{Sending}
-use Rattle.kept.proofs.Tests.{none-left}
+use Rattle.base.specs.Truth.{none-left}
 use Rattle.kept.proofs.Queue.{Kept, kept-same, kept-marked, kept-returned, words-begun, some-begun, fit-begun, lastOf, last-left, last-left-kept, last-left-begun, last-of-within}
 use Rattle.kept.specs.Rules.{SendRules}
 
@@ -131,7 +132,7 @@ module _ (s : Sending) (w c m : ℕ) (r : SendRules s c m) where
   }
 
   pub rules-word-loaded : Chosen s LoadWord → SendRules (advanced LoadWord s w) c m
-  unfolding advanced senderAfter pieceLength
+  unfolding advanced senderAfter
   rules-word-loaded h =
       let k : Kept (s .queue) (queueSent (s .queue) (s .sender .left) w) = kept-sent (s .queue) (s .sender .left) w (r .queue) (r .eight) in
       record {
@@ -149,7 +150,7 @@ module _ (s : Sending) (w c m : ℕ) (r : SendRules s c m) where
       }
 
   pub rules-starved : Chosen s Starve → SendRules (advanced Starve s w) 0 0
-  unfolding advanced senderAfter pieceLength wordsOf
+  unfolding advanced senderAfter wordsOf
   rules-starved h = record {
     tx = r .tx;
     queue = r .queue;
@@ -164,7 +165,7 @@ module _ (s : Sending) (w c m : ℕ) (r : SendRules s c m) where
   }
 
   pub rules-end-loaded : Chosen s LoadEnd → SendRules (advanced LoadEnd s w) c m
-  unfolding advanced senderAfter pieceLength
+  unfolding advanced senderAfter
   rules-end-loaded h = record {
     tx = r .tx;
     queue = r .queue;
@@ -179,7 +180,7 @@ module _ (s : Sending) (w c m : ℕ) (r : SendRules s c m) where
   }
 
   pub rules-words-started : Chosen s StartWords → SendRules (advanced StartWords s w) c m
-  unfolding advanced senderAfter pieceLength
+  unfolding advanced senderAfter
   rules-words-started h =
       record {
         tx = r .tx;
@@ -195,7 +196,7 @@ module _ (s : Sending) (w c m : ℕ) (r : SendRules s c m) where
       }
 
   pub rules-ends-started : Chosen s StartEnds → SendRules (advanced StartEnds s w) c m
-  unfolding advanced senderAfter pieceLength
+  unfolding advanced senderAfter
   rules-ends-started h =
       record {
         tx = r .tx;
@@ -211,7 +212,7 @@ module _ (s : Sending) (w c m : ℕ) (r : SendRules s c m) where
       }
 
   pub rules-stayed : Chosen s Stay → SendRules (advanced Stay s w) c m
-  unfolding advanced senderAfter pieceLength
+  unfolding advanced senderAfter
   rules-stayed h = record {
     tx = r .tx;
     queue = r .queue;
@@ -228,7 +229,7 @@ module _ (s : Sending) (w c m : ℕ) (r : SendRules s c m) where
 -- all of them; a starved tick leaves a frame with nothing to bring and nothing of its own
 pub rules-advanced : (n : Next) (s : Sending) (w c m : ℕ) → SendRules s c m → Chosen s n
     → SendRules (advanced n s w) (pick (isStarve n) 0 c) (pick (isStarve n) 0 m)
-unfolding isStarve pick
+unfolding pick
 rules-advanced GoOn s w c m r h = rules-gone-on s w c m r h
 rules-advanced LoadWord s w c m r h = rules-word-loaded s w c m r h
 rules-advanced Starve s w c m r h = rules-starved s w c m r h
@@ -250,7 +251,6 @@ unfolding tickSender sentBy
 tick-sender-keeps s may w c m r = rules-sent-by (choose s may) s w c m r (chosen s may)
 
 starving : (n : Next) → isStarve n ≡ true → n ≡ Starve
-unfolding isStarve
 starving GoOn e = cc
 starving LoadWord e = cc
 starving Starve e = refl

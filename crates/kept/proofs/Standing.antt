@@ -11,7 +11,8 @@ use lib.Seq.{getD-set-same, getD-set-other}
 use borrow.Author.Tests.{ltb-true, ltb-false, lt-ltb, le-ltb, eqb-true, eqb-false, ne-eqb, not-true}
 use Rattle.base.specs.Pick.{pick, pick-keeps, and-l, and-r, and-both}
 use Rattle.rules.specs.Facts.{Standing}
-use Rattle.rules.specs.Sound.{isFresh, waits, awaits, lastBegun, isUnread}
+use Rattle.place_rules.specs.Places.{isFresh, waits, awaits}
+use Rattle.line_rules.specs.Line.{lastBegun, isUnread}
 use Rattle.state.specs.Facts.{QueueFit}
 use Rattle.state.specs.Queue.{noPlace, placeAt, withPlace, queued, begunOne, emptiedQueue, underWay, moved, freed, firstUnread, claimed, isDone, returned}
 use Rattle.state.specs.declared.Place.{Place}

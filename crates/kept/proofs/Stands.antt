@@ -9,10 +9,12 @@ use borrow.Author.Tests.{ltb-true, eqb-true, lt-ltb, le-leb, eq-eqb}
 use Rattle.base.specs.Pick.{pick, pick-keeps, and-l, and-r, and-both}
 use Rattle.line.specs.Format.{pieceLength}
 use Rattle.rules.specs.Facts.{Standing, SenderFit, allSome}
-use Rattle.rules.specs.Sound.{isFresh, waits, pieceSound, lastBegun, isUnread}
-use Rattle.sender.specs.Sender.{choose, wordSent, queueSent, senderAfter, advanced, placeSent, finished, sentBy, tickSender}
-use Rattle.sender.specs.declared.Next.{Next}
-use Rattle.sender.specs.declared.Next.the-variants.{GoOn, LoadWord, Starve, LoadEnd, StartWords, StartEnds, Stay}
+use Rattle.place_rules.specs.Places.{isFresh, waits}
+use Rattle.line_rules.specs.Line.{pieceSound, lastBegun, isUnread}
+use Rattle.next.specs.Next.{choose}
+use Rattle.sender.specs.Sender.{wordSent, queueSent, senderAfter, advanced, placeSent, finished, sentBy, tickSender}
+use Rattle.next.specs.declared.Next.{Next}
+use Rattle.next.specs.declared.Next.the-variants.{GoOn, LoadWord, Starve, LoadEnd, StartWords, StartEnds, Stay}
 use Rattle.state.specs.Facts.{QueueFit}
 use Rattle.state.specs.Queue.{placeAt, queued, begunOne, underWay, waiting, returned}
 use Rattle.state.specs.Sending.{owing, idle, stored, done}
@@ -45,7 +47,7 @@ idle-left s h = (eqb-true _ _ (search (and-l, and-r)), eqb-true _ _ (and-r (leb 
 
 pub stands-done : (s : Sending) (st : Store) (d : Deed) → QueueFit (s .queue) → length (s .queue .places) ≡ 8 → Stands s → Asks s d
     → Stands (done (stored s st) d)
-unfolding done stored owing pieceSound pieceLength pick
+unfolding done stored owing pieceSound pick
 stands-done s st Leave f l t a = record { standing = t .standing; sender = t .sender }
 stands-done s st (Enqueue p) f l t a =
     let k : Steady (s .queue) (queued (s .queue) p) = queued-steady (s .queue) f l (t .standing) p (a .0) (a .1) in

@@ -3,24 +3,27 @@ use mathlib.Core.Path.{_≡_}
 use mathlib.Core.Bool.{true}
 use Prim.Native.Nat.{ℕ, _+_, _≤_, _<_}
 use lib.ListN.{length}
+use Rattle.command.specs.Layout.{mostWords, mostEnds}
 use Rattle.line.specs.Format.{pieceLength}
 use Rattle.registers.specs.Registers.{regsSound}
 use Rattle.rules.specs.Facts.{Standing, SenderFit, ControlRules, allSome}
-use Rattle.rules.specs.Sound.{earSound, marksSound, lastLeft}
+use Rattle.line_rules.specs.Line.{earSound, marksSound}
+use Rattle.rules.specs.Sound.{lastLeft}
 use Rattle.state.specs.Facts.{RingFit, QueueFit}
 use Rattle.state.specs.Frame.{mineOf, toCome, phaseSound}
-use Rattle.state.specs.Queue.{waiting, wordsOf}
+use Rattle.state.specs.Queue.{places, waiting, wordsOf}
+use Rattle.state.specs.Rings.{txSize, rxSize}
 use Rattle.state.specs.declared.Bridge.{Bridge}
 use Rattle.state.specs.declared.Sending.{Sending}
 
 -- `toCome` and `mine` are the open frame's: the words that it has still to bring for the place it queued, and its own in TX.
 pub record SendRules (s : Sending) (toCome mine : ℕ) : Type 0 where
-  pub tx : RingFit 512 (s .tx)
+  pub tx : RingFit txSize (s .tx)
   pub queue : QueueFit (s .queue)
-  pub eight : length (s .queue .places) ≡ 8
+  pub eight : length (s .queue .places) ≡ places
   pub gone : s .sender .gone ≤ pieceLength (s .sender .piece)
-  pub left : s .sender .left ≤ 4096
-  pub ends : s .sender .ends ≤ 128
+  pub left : s .sender .left ≤ mostWords
+  pub ends : s .sender .ends ≤ mostEnds + 1
   pub sum : s .tx .count + toCome ≡ s .sender .left + wordsOf (waiting (s .queue)) + mine
   pub room : toCome ≤ lastLeft s
   pub some : allSome (waiting (s .queue)) ≡ true
@@ -35,7 +38,7 @@ pub record BridgeRules (b : Bridge) : Type 0 where
   pub sending : SendRules (b .sending) (toCome (b .frame .phase)) (mineOf (b .frame .phase))
   pub stands : Stands (b .sending)
   pub phase : phaseSound (b .frame .phase) ≡ true
-  pub rx : RingFit 256 (b .receiving .rx)
+  pub rx : RingFit rxSize (b .receiving .rx)
   pub ear : earSound (b .receiving .reader .ear) ≡ true
   pub marks : marksSound (b .receiving .reader .ear) (b .receiving .reader) (b .sending .queue) (b .control .flags) ≡ true
   pub control : ControlRules (b .control) (b .receiving .rx .count) (b .frame .phase)

@@ -11,7 +11,7 @@ use lib.Dec.{ltb, eqb}
 use lib.Pow.{shr-shr, shr-le}
 use borrow.Author.Tests.{lt-ltb, eq-eqb, ne-eqb, eqb-true, eqb-false, ltb-false}
 use Rattle.base.specs.Pick.{pick, pick-keeps}
-use Rattle.base.specs.Bits.{val, odd, bit}
+use Rattle.base.specs.Bits.{val, odd, bit, val-le, val-odd}
 use Rattle.line.specs.declared.Piece.{Piece}
 use Rattle.line.specs.declared.Piece.the-variants.{Pause, StartBit, WordPiece, EndPiece}
 use Rattle.line.specs.declared.Ear.the-variants.{Quiet, Group}
@@ -50,20 +50,6 @@ Fits StartBit (within finished words b) = ⊥
 Fits (WordPiece w) (out finished) = ⊥
 Fits (WordPiece w) (within finished words b) = w < 65536
 Fits EndPiece p = Unit {0}
-
--- A bit's number.
-val-le : (b : Bool) → val b ≤ 1
-unfolding val
-val-le true = omega arith
-val-le false = omega arith
-
-val-odd : (x : ℕ) → val (odd x) ≡ x % 2
-unfolding odd val
-val-odd x = go (eqb (x % 2) 1) refl
-  where
-    go : (t : Bool) → eqb (x % 2) 1 ≡ t → val t ≡ x % 2
-    go true e = sym (eqb-true (x % 2) 1 e)
-    go false e = let n : x % 2 ≢ 1 = eqb-false (x % 2) 1 e in omega arith
 
 -- A run grows by one bit at most, and stops at a 0.
 run-le : (n : ℕ) (b : Bool) → runOn n b ≤ suc n
@@ -164,7 +150,7 @@ end-out finished (suc n) = rw (end-out finished n)
 
 -- A whole piece leads from its place to the next.
 pub whole : (u : Piece) (p : Pos) → Fits u p → upTo (at p) (pieceBit u) (pieceLength u) ≡ at (after u p)
-unfolding pieceLength after val
+unfolding after val
 whole Pause p f = unfold upTo in refl
 whole StartBit (out finished) f = unfold upTo pieceBit readBit hear collect at pick in refl
 whole StartBit (within finished words b) f = absurd f
@@ -230,7 +216,7 @@ end-17 finished words false = inl (record { same-finished = refl; same-words = r
 
 short : (u : Piece) (p : Pos) → Fits u p → (n : ℕ) → n < pieceLength u
     → Shows (upTo (at p) (pieceBit u) n) p ⊎ Shows (upTo (at p) (pieceBit u) n) (after u p)
-unfolding pieceLength after
+unfolding after
 short Pause p f n l = absurd (omega arith)
 short StartBit (out finished) f n l = let e : n ≡ 0 = omega arith in inl (shows-equal _ _ (rw e (unfold upTo in refl)))
 short StartBit (within finished words b) f n l = absurd f

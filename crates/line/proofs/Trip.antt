@@ -32,7 +32,7 @@ pieceBits EndPiece = endBits
 
 -- Bit by bit, a piece is what Format writes.
 pub piece-bits : (u : Piece) → tabulate (pieceBit u) (pieceLength u) ≡ pieceBits u
-unfolding tabulate pieceBit pieceLength wordBit wordBits highFirst endBits pick
+unfolding tabulate pieceBit wordBit wordBits highFirst endBits pick
 piece-bits Pause = refl
 piece-bits StartBit = refl
 piece-bits (WordPiece w) = refl
@@ -154,7 +154,7 @@ sent-words : (A finished rest : List (List ℕ)) (words : List ℕ) (b : Bool) (
     → A ≡ finished ++ ((words ++ ws) ∷ rest)
     → ((n : ℕ) → Sent (readBits (at (out (finished ++ ((words ++ ws) ∷ [])))) (take n t)) A)
     → (n : ℕ) → Sent (readBits (at (within finished words b)) (take n (wordsBits ws ++ (endBits ++ t)))) A
-unfolding wordsBits after pieceLength
+unfolding wordsBits after
 sent-words A finished rest words b [] t k a next n =
     elim (decLe n 18) [
       | yes h ↦

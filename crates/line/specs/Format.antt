@@ -6,13 +6,9 @@ use Prim.Native.Nat.{ℕ, _+_, _-_, _<_}
 use lib.Dec.{ltb}
 use lib.ListN.{replicate}
 use Rattle.base.specs.Pick.{pick}
-use Rattle.base.specs.Bits.{odd, bit, highFirst}
+use Rattle.base.specs.Bits.{wordLength, wordEnd, odd, bit, highFirst}
 use Rattle.line.specs.declared.Piece.{Piece}
 use Rattle.line.specs.declared.Piece.the-variants.{Pause, StartBit, WordPiece, EndPiece}
-
--- the bits of a word. 001 7.3.2.1
-abbrev pub wordLength : ℕ
-wordLength = 16
 
 -- a word with its check bit. 01 The line; 001 7.3.2.1
 abbrev pub groupLength : ℕ
@@ -57,7 +53,7 @@ commandsOf (command ws ∷ s) = ws ∷ commandsOf s
 -- words are of sixteen bits
 abbrev pub Words : List ℕ → Type 0
 Words [] = Unit {0}
-Words (w ∷ ws) = (w < 65536) × Words ws
+Words (w ∷ ws) = (w < wordEnd) × Words ws
 
 abbrev pub Sixteen : List Segment → Type 0
 Sixteen [] = Unit {0}
@@ -65,7 +61,7 @@ Sixteen (idle ∷ s) = Sixteen s
 Sixteen (command ws ∷ s) = Words ws × Sixteen s
 
 -- The same bits as the sender gives them: piece by piece, bit by bit. A pause has none.
-unfoldable pub pieceLength : Piece → ℕ
+abbrev pub pieceLength : Piece → ℕ
 pieceLength Pause = 0
 pieceLength StartBit = 1
 pieceLength (WordPiece w) = wordLength + 1

@@ -7,8 +7,8 @@ use Prim.Native.Nat.{ℕ, _+_, _*_, _%_}
 use lib.Dec.{ltb, eqb}
 use lib.ListN.{length, take, getD}
 use Rattle.base.specs.Pick.{pick}
-use Rattle.base.specs.Bits.{val}
-use Rattle.line.specs.Format.{wordLength, endLength}
+use Rattle.base.specs.Bits.{wordLength, topBit, allOnes, val}
+use Rattle.line.specs.Format.{endLength}
 use Rattle.line.specs.declared.Ear.{Ear}
 use Rattle.line.specs.declared.Ear.the-variants.{Quiet, Group, Lost}
 use Rattle.line.specs.declared.Found.{Found}
@@ -26,7 +26,7 @@ runOn ones false = 0
 
 -- the bits of a group so far, with one more at the low end; sixteen are kept
 unfoldable pub shiftIn : ℕ → Bool → ℕ
-shiftIn value b = value % 32768 * 2 + val b
+shiftIn value b = value % topBit * 2 + val b
 
 -- The bit after a group's sixteen: with one that is NOT their last they are a word; "a group of seventeen 1s is END if it makes or the next
 -- bit makes 18, else a check error", so those seventeen are kept for one bit more.
@@ -34,7 +34,7 @@ unfoldable pub atCheck : ℕ → ℕ → ℕ → Bool → Heard
 atCheck value bits ones b =
     pick (ltb wordLength bits) (heard (Lost ones) CheckError)
     (pick (eqb (val b + value % 2) 1) (heard (Group 0 0 ones) (Word value))
-    (pick (eqb value 65535) (heard (Group value (wordLength + 1) ones) Nothing) (heard (Lost ones) CheckError)))
+    (pick (eqb value allOnes) (heard (Group value (wordLength + 1) ones) Nothing) (heard (Lost ones) CheckError)))
 
 -- A bit in a group of `bits` bits; `ones` counts the 1s in a row with this bit. "END is 18 consecutive 1s."
 unfoldable pub inGroup : ℕ → ℕ → ℕ → Bool → Heard

@@ -10,6 +10,7 @@ use Rattle.line.specs.Reader.{hear}
 use Rattle.line.specs.declared.Found.{Found}
 use Rattle.line.specs.declared.Found.the-variants.{Nothing, Start, Word as WordFound, End, CheckError, Over}
 use Rattle.registers.specs.Registers.{statusOf}
+use Rattle.state.specs.Rings.{txSize, rxSize}
 use Rattle.state.specs.Notes.{noteNumber}
 use Rattle.state.specs.Power.{powerUp}
 use Rattle.events.specs.Turn.{Out}
@@ -36,7 +37,7 @@ after o (e ∷ es) = after (then o e) es
 
 -- a power-up event, with stores of zeros
 unfoldable pub powerOn : Bool → Out
-powerOn good = step ours powerUp (replicate 512 0) (replicate 256 0) (Power good)
+powerOn good = step ours powerUp (replicate txSize 0) (replicate rxSize 0) (Power good)
 
 -- a frame: its words, their CRC, chip select released
 unfoldable pub frame : List ℕ → List Event

@@ -15,26 +15,20 @@ fn closed(start: Bridge, tx: &mut [u16], rx: &mut [u16], crc: u16) -> Bridge {
     event(checked, tx, rx, Event::Release)
 }
 
-fn frame_of_one(start: Bridge, tx: &mut [u16], rx: &mut [u16], word: u16) -> Bridge {
-    let words = [word];
-    let open = event(start, tx, rx, Event::Word(word));
-    closed(open, tx, rx, crc16::crc_list(&words))
-}
-
-fn two_words(start: Bridge, tx: &mut [u16], rx: &mut [u16], first: u16, second: u16) -> Bridge {
-    let open = event(start, tx, rx, Event::Word(first));
-    event(open, tx, rx, Event::Word(second))
-}
-
-fn frame_of_two(start: Bridge, tx: &mut [u16], rx: &mut [u16], first: u16, second: u16) -> Bridge {
-    let words = [first, second];
-    let full = two_words(start, tx, rx, first, second);
-    closed(full, tx, rx, crc16::crc_list(&words))
+fn frame(start: Bridge, tx: &mut [u16], rx: &mut [u16], words: &[u16]) -> Bridge {
+    let mut open = start;
+    let mut i: usize = 0;
+    while i < words.len() {
+        let next = i + 1;
+        open = event(open, tx, rx, Event::Word(words[i]));
+        i = next;
+    }
+    closed(open, tx, rx, crc16::crc_list(words))
 }
 
 // Power-up, then REG_WR of STATUS bit 15: POR is cleared, so that the sender may start.
 fn cleared(tx: &mut [u16], rx: &mut [u16]) -> Bridge {
-    frame_of_two(Bridge::good(), tx, rx, 0xB007, 0x8000)
+    frame(Bridge::good(), tx, rx, &[0xB007, 0x8000])
 }
 
 fn print_number(before: &[u8], number: u64, after: &[u8]) {
@@ -48,7 +42,7 @@ fn ends_alone() {
     let mut tx = [0u16; 512];
     let mut rx = [0u16; 256];
     let ready = cleared(&mut tx, &mut rx);
-    let queued = frame_of_one(ready, &mut tx, &mut rx, 0x5060);
+    let queued = frame(ready, &mut tx, &mut rx, &[0x5060]);
     let drained = drain::drain(queued, &mut tx, &mut rx, 1000);
     print_number(
         b"no words, 3 extra ENDs: ",
@@ -83,7 +77,7 @@ fn watch() {
     let mut rx = [0u16; 256];
     let ready = cleared(&mut tx, &mut rx);
     let read = event(ready, &mut tx, &mut rx, Event::Clock(65533));
-    let queued = frame_of_two(read, &mut tx, &mut rx, 0x2000, 0xAAF0);
+    let queued = frame(read, &mut tx, &mut rx, &[0x2000, 0xAAF0]);
     let begun = event(queued, &mut tx, &mut rx, Event::Tick(true));
     print_mark(begun.clock);
     let first = read_clock(begun, &mut tx, &mut rx, 1);

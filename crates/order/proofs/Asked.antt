@@ -9,9 +9,10 @@ use Rattle.registers.specs.Registers.{blocking}
 use Rattle.state.specs.Rings.{oldest}
 use Rattle.state.specs.declared.Deed.{Deed}
 use Rattle.state.specs.declared.Note.{Note}
-use Rattle.host.specs.Forward.{clears}
+use Rattle.forwards.specs.Forward.{clears}
 use Rattle.kept.proofs.Fits.{LayoutFit}
-use Rattle.events.specs.Events.{clocked, reacted}
+use Rattle.clock.specs.Clock.{clocked}
+use Rattle.events.specs.Events.{reacted}
 use Rattle.events.specs.Turn.{turned, turn}
 use Rattle.events.specs.declared.Event.{Event}
 use Rattle.events.specs.declared.Event.the-variants.{Power, Word, Release, Tick, Clock as ClockReading}
@@ -21,7 +22,7 @@ use Rattle.bridge.proofs.Reached.{Obeys, obeyed-turn, step-obeys}
 use Rattle.order.specs.Accepted.{planOf}
 use Rattle.order.specs.Premises.{clearing, losing, Fair, Premises, FairAsAsked, AskedPremises}
 use Rattle.order.proofs.Faults.{fault-note}
-use Rattle.order.proofs.Truth.{never}
+use Rattle.base.specs.Truth.{never}
 
 -- What leaves no blocking flag up and clears nothing is no fault.
 loud-not : (n : Note) (d : Deed) → (faults n ≡ true → clears d ≡ true) → clears d ≡ false → faults n ≡ false

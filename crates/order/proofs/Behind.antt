@@ -14,10 +14,10 @@ use Rattle.state.specs.declared.Deed.the-variants.{Leave}
 use Rattle.state.specs.declared.Phase.{Phase}
 use Rattle.state.specs.declared.Phase.the-variants.{Idle, Collecting, Answering, Discarding}
 use Rattle.state.specs.Frame.{isForward}
-use Rattle.events.specs.Events.{blockedIn}
+use Rattle.ticks.specs.Ticks.{blockedIn}
 use Rattle.order.specs.Accepted.{Log, accepts, collects, joined, settle, listed}
 use Rattle.order.specs.Framed.{Framed, more, frame}
-use Rattle.order.proofs.Truth.{never, or-none}
+use Rattle.base.specs.Truth.{never, or-none}
 
 -- Outside a forward.
 pub record Shut (l : Layout) (g : Log) (hs : List ℕ) : Type 0 where
@@ -119,7 +119,7 @@ module _ (l : Layout) (g : Log) (hs : List ℕ) where
 
   blocks-frame : (command : Command) (got : ℕ) (blocked : Bool) → InFrame l command got blocked g hs
       → InFrame l command got (isForward command || blocked) g hs
-  unfolding InFrame isForward
+  unfolding InFrame
   blocks-frame Filler got blocked h = h
   blocks-frame Malformed got blocked h = h
   blocks-frame (Forward crc most ends reads) got blocked h =

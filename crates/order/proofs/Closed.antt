@@ -36,7 +36,7 @@ module _ (l : Layout) (fits : LayoutFit l) (tx rx : List ℕ) (stores : RightSto
 
   -- At power-up nothing accepted is unsent, so a power event is within the premises there.
   power-sent : (good : Bool) → AllSent (powerOn good tx rx .bridge .sending)
-  unfolding powerOn powered pick powerUp powerUpBad pieceLength
+  unfolding powerOn powered pick powerUp powerUpBad
   power-sent true = record { idle-sender = refl; none-waits = refl }
   power-sent false = record { idle-sender = refl; none-waits = refl }
 

@@ -181,7 +181,7 @@ pub exact-word : (t : Sender) (w : ℕ) (H W : List ℕ) (bits : List Bool) (S K
     → Exact (sends (WordPiece w) 1 (t .left - 1) (t .ends)) H W (bits ++ (pieceBit (WordPiece w) 0 ∷ [])) S K
 exact-word t w H W bits S K x b h =
     let e : t .left ≡ suc (t .left - 1) = omega arith in
-    exact-load t (w ∷ H) W bits S K x b (WordPiece w) (t .left - 1) (t .ends) H W (unfold pieceLength in omega arith)
+    exact-load t (w ∷ H) W bits S K x b (WordPiece w) (t .left - 1) (t .ends) H W (omega arith)
     (next-word _ (t .left - 1) (t .ends) w H W S K (x .low) (rw e at (x .account)))
 
 -- An END: of the command, an extra one, or of a place that has no words.
@@ -189,7 +189,7 @@ pub exact-end : (t : Sender) (ends : ℕ) (H W : List ℕ) (bits : List Bool) (S
     → pieceLength (t .piece) ≤ t .gone → t .left ≡ 0 → Exact (sends EndPiece 1 0 ends) H W (bits ++ (true ∷ [])) S K
 unfolding pieceBit
 exact-end t ends H W bits S K x b l =
-    exact-load t H W bits S K x b EndPiece 0 ends H W (unfold pieceLength in omega arith)
+    exact-load t H W bits S K x b EndPiece 0 ends H W (omega arith)
     (next-end _ (t .ends) ends H W S K (rw l at (x .account)))
 
 -- A start bit.
@@ -198,7 +198,7 @@ exact-start : (t : Sender) (k ends : ℕ) (H W : List ℕ) (bits : List Bool) (S
     → Exact (sends StartBit 1 (suc k) (suc ends)) H W (bits ++ (false ∷ [])) S K
 unfolding pieceBit
 exact-start t k ends H W bits S K x b l e =
-    exact-load t H (suc k ∷ W) bits S K x b StartBit (suc k) (suc ends) H W (unfold pieceLength in omega arith)
+    exact-load t H (suc k ∷ W) bits S K x b StartBit (suc k) (suc ends) H W (omega arith)
     (next-start _ k ends H W S K (rw (l, e) at (x .account)))
 
 -- A place begun, with words and without.
@@ -231,7 +231,7 @@ rests (away segments) bits H W S K b p a k =
       spot = away (segments ++ (idle ∷ []));
       proper = sixteen-append segments (idle ∷ []) p tt;
       fits = tt;
-      short = unfold pieceLength in omega arith;
+      short = omega arith;
       is = unfold lineAt tabulate in rw (b, encode-idle, append-nil);
       account = unfold onward toPos in rw commands-idle a;
       low = k;
@@ -292,7 +292,7 @@ exact-owing t ends H W bits S K x b l e =
       spot = onward (t .piece) (x .spot);
       proper = proper-onward (t .piece) (x .spot) (x .fits) (x .proper);
       fits = tt;
-      short = unfold pieceLength in omega arith;
+      short = omega arith;
       is = unfold tabulate in (exact-between t H W bits S K x b ∙ sym (append-nil (lineAt (onward (t .piece) (x .spot)))));
       account = pause (onward (t .piece) (x .spot)) (account-owes _ ends H W S K (rw (l, e) at (x .account)));
       low = x .low;
@@ -311,7 +311,7 @@ power-spot (away segments) H bits S K b p a k =
       spot = away segments;
       proper = p;
       fits = tt;
-      short = unfold pieceLength in omega arith;
+      short = omega arith;
       is = unfold tabulate in (b ∙ sym (append-nil (lineAt (away segments))));
       account = unfold onward toPos in account-fresh (commandsOf segments);
       low = account-front (commandsOf segments) H S K c k;
@@ -399,7 +399,7 @@ exact-power =
       spot = away [];
       proper = tt;
       fits = tt;
-      short = unfold pieceLength in omega arith;
+      short = omega arith;
       is = unfold lineAt encode tabulate in refl;
       account = unfold Account toPos onward commandsOf concat lengths in (refl, refl, refl);
       low = tt;

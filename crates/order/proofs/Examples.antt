@@ -18,13 +18,22 @@ use Rattle.state.specs.Power.{powerUp, badControl, powerUpBad}
 use Rattle.state.specs.Queue.{noPlace, newPlace, waiting, wordsOf, moved, freed, firstUnread, claimed, returned}
 use Rattle.state.specs.Rings.{written, ringAfter}
 use Rattle.state.specs.Sending.{owing, stored, done}
-use Rattle.rules.specs.Sound.{roleSound, slotSound, slotsBelow, pieceSound, earSound, marksSound, otpSound, isUnmarked}
-use Rattle.sender.specs.Sender.{choose, bitSent, wordSent, queueSent, senderAfter, advanced, finished, isStarve, isStart, sentBy, tickSender, placeSent}
+use Rattle.place_rules.specs.Places.{roleSound, slotSound, slotsBelow}
+use Rattle.line_rules.specs.Line.{pieceSound, earSound, marksSound}
+use Rattle.frame_rules.specs.Frames.{otpSound, isUnmarked}
+use Rattle.next.specs.Next.{choose, bitSent, isStarve, isStart}
+use Rattle.sender.specs.Sender.{wordSent, queueSent, senderAfter, advanced, finished, sentBy, tickSender, placeSent}
 use Rattle.reader.specs.Reader.{wordRead, errorRead, endRead, wordTaken, atEnd, ended, takenBy, tickReader, began}
-use Rattle.host.specs.Forward.{asksStore, guard, mineAfter, enqueues, clears, forwarded, forwardWord, forwardBegun, faulted}
-use Rattle.host.specs.Frames.{opened, isQuiet, isTransmitClear, isReceiveClear, isRefused, withWrite, registerWord, dataWord, wrongCrc, forwardClosed, crcDue, plannedIn, planned, resetClosed, cutDeed, cut, releasedIn, registersClosed}
-use Rattle.host.specs.Plan.{clearedAway, received, settled, concluded, performed}
-use Rattle.events.specs.Events.{powered, blockedIn, same, markAfter, watched, starvedFlags, flagsSent, phaseAfter, controlTicked, tickEnds, tickHears, ticked, clocked, reacted, tickNote, elapsed, modeAt, flagsAt, controlAt}
+use Rattle.forwards.specs.Forward.{asksStore, guard, mineAfter, enqueues, clears, forwarded, forwardWord, forwardBegun, faulted}
+use Rattle.host.specs.Frames.{opened, dataWord, plannedIn, planned}
+use Rattle.release.specs.Release.{releasedIn}
+use Rattle.writes.specs.Writes.{isQuiet, isTransmitClear, isReceiveClear, isRefused, withWrite, registerWord}
+use Rattle.closing.specs.Closing.{wrongCrc, forwardClosed, crcDue, resetClosed, registersClosed}
+use Rattle.release.specs.Release.{cutDeed, cut}
+use Rattle.plan.specs.Plan.{clearedAway, received, settled, concluded, performed}
+use Rattle.events.specs.Events.{powered, reacted}
+use Rattle.ticks.specs.Ticks.{blockedIn, same, markAfter, watched, starvedFlags, flagsSent, phaseAfter, controlTicked, tickEnds, tickHears, ticked, tickNote}
+use Rattle.clock.specs.Clock.{clocked, elapsed, modeAt, flagsAt, controlAt}
 use Rattle.bridge.specs.Step.{step}
 use Rattle.events.specs.Turn.{turned, turn}
 use Rattle.kept.proofs.Fits.{ours-fits}
@@ -59,7 +68,7 @@ opening = frame (0xB007 ∷ 0x8000 ∷ [])
 
 -- The run meets the premises; at its end all is sent.
 unfoldable meets : List Event → Bool
-unfolding ticks frame opening val odd bit highFirst pick shift crcBit crcBits crcWord crcFrom crcOf write registerWrite rows byNumber decodeOurs raised blocking isNormal powerUpControl writeStatus writeMasked writeOf checkBit pieceLength wordBit pieceBit runOn shiftIn atCheck inGroup inLost hear dataWords mineOf owedBy toCome collectSound replySound phaseSound powerUp noPlace newPlace waiting wordsOf moved freed firstUnread claimed returned written ringAfter stored done roleSound slotSound slotsBelow pieceSound earSound marksSound otpSound isUnmarked choose bitSent wordSent queueSent senderAfter advanced finished isStarve isStart sentBy tickSender wordRead errorRead endRead wordTaken atEnd ended takenBy tickReader asksStore guard mineAfter enqueues clears forwarded forwardWord forwardBegun opened isQuiet isTransmitClear isReceiveClear isRefused withWrite registerWord dataWord wrongCrc forwardClosed crcDue plannedIn planned releasedIn clearedAway received settled concluded performed powered isForward blockedIn same markAfter watched starvedFlags flagsSent phaseAfter controlTicked tickEnds tickHears ticked clocked reacted turned turn step planOf came accepts collects joined settle logged logBy listed acceptedIn isPower typed fair premises faults outOf next endOf lineBit soutOf powerOn allSent table resetRegs cleared powerUpFlags writeTxfflvl registersClosed faulted tickNote elapsed modeAt flagsAt controlAt placeSent writeEnds began
+unfolding ticks frame opening val odd bit highFirst pick shift crcBit crcBits crcWord crcFrom crcOf write registerWrite rows byNumber decodeOurs raised blocking powerUpControl writeStatus writeMasked writeOf checkBit wordBit pieceBit runOn shiftIn atCheck inGroup inLost hear mineOf owedBy toCome collectSound replySound phaseSound powerUp noPlace newPlace waiting wordsOf moved freed firstUnread claimed returned written ringAfter stored done roleSound slotSound slotsBelow pieceSound earSound marksSound isUnmarked choose bitSent wordSent queueSent senderAfter advanced finished sentBy tickSender wordRead errorRead endRead wordTaken atEnd ended takenBy tickReader asksStore guard mineAfter enqueues clears forwarded forwardWord forwardBegun opened isQuiet isTransmitClear isReceiveClear isRefused withWrite registerWord dataWord wrongCrc forwardClosed crcDue plannedIn planned releasedIn clearedAway received settled concluded performed powered blockedIn same markAfter watched starvedFlags flagsSent phaseAfter controlTicked tickEnds tickHears ticked clocked reacted turned turn step planOf came accepts collects joined settle logged logBy listed acceptedIn isPower typed fair premises faults outOf next endOf lineBit soutOf powerOn allSent table resetRegs cleared powerUpFlags writeTxfflvl registersClosed faulted tickNote elapsed modeAt flagsAt controlAt placeSent writeEnds began
 meets es = premises ours from es
 
 unfoldable sends-all : List Event → Bool

@@ -14,13 +14,15 @@ use Rattle.registers.specs.declared.Flags.{Flags}
 use Rattle.state.specs.declared.Bridge.{Bridge}
 use Rattle.state.specs.declared.Queue.{Queue}
 use Rattle.state.specs.declared.Receiving.{Receiving}
-use Rattle.sender.specs.Sender.{mayStart, tickSender}
+use Rattle.next.specs.Next.{mayStart}
+use Rattle.sender.specs.Sender.{tickSender}
 use Rattle.reader.specs.Reader.{wordTaken, ended, takenBy, tickReader}
 use Rattle.reader.specs.declared.Taken.{Taken}
-use Rattle.host.specs.Plan.{settled}
-use Rattle.events.specs.Events.{starvedFlags, flagsSent, controlTicked, tickNote, tickEnds, tickHears, ticked, flagsAt, controlAt, clocked}
+use Rattle.plan.specs.Plan.{settled}
+use Rattle.ticks.specs.Ticks.{starvedFlags, flagsSent, controlTicked, tickNote, tickEnds, tickHears, ticked}
+use Rattle.clock.specs.Clock.{flagsAt, controlAt, clocked}
 use Rattle.bridge.specs.Runs.{faults}
-use Rattle.order.proofs.Truth.{or-l, or-r}
+use Rattle.base.specs.Truth.{or-l, or-r}
 
 abbrev Same : Flags → Flags → Type 0
 Same f g = blocking g ≡ blocking f

@@ -20,11 +20,11 @@ use Rattle.state.specs.declared.Place.{Place}
 use Rattle.state.specs.declared.Sending.{Sending}
 use Rattle.state.specs.declared.Store.{Store}
 use Rattle.state.specs.declared.Store.the-variants.{Keep, Put}
-use Rattle.host.specs.Forward.{asksStore, granted, wish, guard}
-use Rattle.host.specs.declared.Granted.{Granted}
+use Rattle.forwards.specs.Forward.{asksStore, granted, wish, guard}
+use Rattle.forwards.specs.declared.Granted.{Granted}
 use Rattle.bridge.specs.Runs.{faults}
 use Rattle.order.specs.Accepted.{Log, came, accepts, collects, joined, settle}
-use Rattle.order.proofs.Truth.{never, or-none, and-false}
+use Rattle.base.specs.Truth.{never, or-none, and-last}
 use Rattle.order.proofs.Account.{counted, concat, lengths, concat-snoc, lengths-snoc}
 use Rattle.order.proofs.Sending.{lessBy, moreBy}
 use Rattle.order.proofs.Frames.{Shut, Pending, Released, Open, InFrame, Kept, Goes}
@@ -46,7 +46,7 @@ module _ (P : Granted → Type 0) (count used : ℕ) (st : Store) (release : Boo
       Q r = faults (r .note) ≡ false → P r
 
       room : (asksStore st && leb 512 count) ≡ false → asksStore st ≡ true → count < 512
-      room u a = leb-false 512 count (and-false (asksStore st) (leb 512 count) u a)
+      room u a = leb-false 512 count (and-last (asksStore st) (leb 512 count) u a)
 
 -- The frame's words, with its place where it has words.
 nil-of : (ws : List ℕ) → length ws ≡ 0 → ws ≡ []

@@ -13,10 +13,14 @@ use Rattle.state.specs.declared.Deed.{Deed}
 use Rattle.state.specs.declared.Deed.the-variants.{Leave}
 use Rattle.state.specs.declared.Phase.{Phase}
 use Rattle.state.specs.declared.Phase.the-variants.{Idle, Collecting, Answering, Discarding}
-use Rattle.host.specs.Frames.{planned, cutDeed, cut, releasedIn}
-use Rattle.host.specs.Plan.{concluded, performed}
+use Rattle.host.specs.Frames.{planned}
+use Rattle.release.specs.Release.{releasedIn}
+use Rattle.release.specs.Release.{cutDeed, cut}
+use Rattle.plan.specs.Plan.{concluded, performed}
 use Rattle.kept.proofs.Fits.{LayoutFit, ours-fits}
-use Rattle.events.specs.Events.{powered, phaseAfter, tickEnds, tickHears, ticked, clocked, reacted}
+use Rattle.events.specs.Events.{powered, reacted}
+use Rattle.ticks.specs.Ticks.{phaseAfter, tickEnds, tickHears, ticked}
+use Rattle.clock.specs.Clock.{clocked}
 use Rattle.events.specs.Turn.{turned, turn}
 use Rattle.events.specs.declared.Event.{Event}
 use Rattle.events.specs.declared.Event.the-variants.{Power, Word, Release, Tick, Clock as ClockReading}

@@ -20,10 +20,10 @@ use Rattle.state.specs.declared.Phase.the-variants.{Idle, Collecting, Answering
 use Rattle.state.specs.declared.Sending.{Sending}
 use Rattle.state.specs.declared.Store.{Store}
 use Rattle.state.specs.declared.Store.the-variants.{Keep}
-use Rattle.host.specs.declared.Plan.{Plan}
+use Rattle.plan.specs.declared.Plan.{Plan}
 use Rattle.bridge.specs.Runs.{AllSent}
 use Rattle.order.specs.Accepted.{Log, came, accepts, collects, joined, settle, listed}
-use Rattle.order.proofs.Truth.{or-none}
+use Rattle.base.specs.Truth.{or-none}
 use Rattle.order.proofs.Account.{counted, assign, concat, lengths, assign-done}
 use Rattle.order.proofs.Sending.{lessBy, moreBy, Storable, Feasible}
 

@@ -22,14 +22,17 @@ use Rattle.state.specs.declared.Reply.{Reply}
 use Rattle.state.specs.declared.Reply.the-variants.{Status, Data, Registers, Check}
 use Rattle.state.specs.declared.Store.{Store}
 use Rattle.state.specs.declared.Store.the-variants.{Keep, Put}
-use Rattle.host.specs.Forward.{asksStore, granted, guard, clears, forwarded, forwardWord, forwardBegun}
-use Rattle.host.specs.Frames.{opened, heldWord, registerWord, dataWord, wrongCrc, forwardClosed, registersClosed, readClosed, resetClosed, crcDue, answerWith, dataAnswered, registerAnswered, answered, plannedIn}
-use Rattle.host.specs.declared.Granted.{Granted}
-use Rattle.host.specs.declared.Plan.{Plan}
-use Rattle.host.specs.declared.Wish.{Wish}
+use Rattle.forwards.specs.Forward.{asksStore, granted, guard, clears, forwarded, forwardWord, forwardBegun}
+use Rattle.host.specs.Frames.{opened, dataWord, plannedIn}
+use Rattle.writes.specs.Writes.{heldWord, registerWord}
+use Rattle.closing.specs.Closing.{wrongCrc, forwardClosed, registersClosed, readClosed, resetClosed, crcDue}
+use Rattle.answers.specs.Answers.{answerWith, dataAnswered, registerAnswered, answered}
+use Rattle.forwards.specs.declared.Granted.{Granted}
+use Rattle.plan.specs.declared.Plan.{Plan}
+use Rattle.forwards.specs.declared.Wish.{Wish}
 use Rattle.order.specs.Accepted.{Log, came, accepts, collects, joined, settle}
 use Rattle.order.specs.Framed.{Framed}
-use Rattle.order.proofs.Truth.{never, or-none}
+use Rattle.base.specs.Truth.{never, or-none}
 use Rattle.order.proofs.Behind.{Shut, Open, InFrame, Stands, on, shut-more, framed-open, framed-shut}
 
 -- what is sent next stands behind what was dropped, or behind what was stored where nothing was dropped
@@ -242,7 +245,7 @@ module _ (l : Layout) (b : Bridge) (g : Log) (hs : List ℕ) (w : ℕ) where
 
   data-word : (command : Command) (got sum mine : ℕ) (released blocked : Bool) → got < dataWords command → InFrame l command got blocked g hs
       → AfterBy l g sent (dataWord b command got sum mine released blocked w)
-  unfolding dataWord dataWords InFrame registerWord heldWord accepts
+  unfolding dataWord InFrame registerWord heldWord accepts
   data-word Filler got sum mine released blocked d h = idles l b g sent (shut-more l g hs _ h) _ false refl
   data-word Malformed got sum mine released blocked d h = idles l b g sent (shut-more l g hs _ h) _ false refl
   data-word (Forward crc most ends reads) got sum mine released blocked d h =

@@ -1,4 +1,3 @@
-mod Truth
 mod Ring
 mod Waiting
 mod Account

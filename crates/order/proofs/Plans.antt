@@ -24,14 +24,19 @@ use Rattle.state.specs.declared.Reply.{Reply}
 use Rattle.state.specs.declared.Reply.the-variants.{Status, Data, Registers, Check}
 use Rattle.state.specs.declared.Sending.{Sending}
 use Rattle.state.specs.declared.Store.the-variants.{Keep, Put}
-use Rattle.host.specs.Forward.{asksStore, clears, enqueues, mineAfter, faulted, forwarded, releases, forwardWord, forwardBegun}
-use Rattle.host.specs.Frames.{opened, heldWord, registerWord, dataWord, closed, wrongCrc, forwardClosed, registersClosed, readClosed, resetClosed, crcDue, answerWith, dataAnswered, registerAnswered, answered, plannedIn, planned, cutDeed, cut, releasedIn}
-use Rattle.host.specs.declared.Granted.{Granted}
-use Rattle.host.specs.declared.Plan.{Plan}
-use Rattle.host.specs.declared.Receive.the-variants.{LeaveRx}
+use Rattle.forwards.specs.Forward.{asksStore, clears, enqueues, mineAfter, faulted, forwarded, releases, forwardWord, forwardBegun}
+use Rattle.host.specs.Frames.{opened, dataWord, plannedIn, planned}
+use Rattle.release.specs.Release.{releasedIn}
+use Rattle.writes.specs.Writes.{heldWord, registerWord}
+use Rattle.closing.specs.Closing.{closed, wrongCrc, forwardClosed, registersClosed, readClosed, resetClosed, crcDue}
+use Rattle.release.specs.Release.{cutDeed, cut}
+use Rattle.answers.specs.Answers.{answerWith, dataAnswered, registerAnswered, answered}
+use Rattle.forwards.specs.declared.Granted.{Granted}
+use Rattle.plan.specs.declared.Plan.{Plan}
+use Rattle.plan.specs.declared.Receive.the-variants.{LeaveRx}
 use Rattle.bridge.specs.Runs.{faults, AllSent}
 use Rattle.order.specs.Accepted.{Log}
-use Rattle.order.proofs.Truth.{never, or-r}
+use Rattle.base.specs.Truth.{never, or-r}
 use Rattle.order.proofs.Account.{counted, concat, lengths, sum, sum-append, length-concat}
 use Rattle.order.proofs.Frames.{Shut, Pending, Released, Open, InFrame, Kept, Goes, GoesBy, Rests, rests-idle, rests-answering, rests-discarding, goes-quiet, goes-cleared, goes-reset}
 use Rattle.order.proofs.Forwards.{guard-grants, over-released, over-pending, over-queued, over-back, over-nothing, begun-queued, begun-pending, word-queued, word-pending, word-released}
@@ -211,7 +216,7 @@ module _ (b : Bridge) (g : Log) (S K : List ℕ) (spent : Spent b S K) where
   module _ (got sum mine : ℕ) (released blocked : Bool) where
     data-word : (command : Command) (w : ℕ) → w < 65536 → got < dataWords command → InFrame command got mine released blocked g S K
         → Good b g S K (dataWord b command got sum mine released blocked w)
-    unfolding dataWord InFrame dataWords registerWord heldWord Kept
+    unfolding dataWord InFrame registerWord heldWord Kept
     data-word Filler w small due h k = quiet (h .0) Idle rests-idle
     data-word Malformed w small due h k = quiet (h .0) Idle rests-idle
     data-word (Forward crc words ends reads) w small due h k =
@@ -225,7 +230,7 @@ module _ (b : Bridge) (g : Log) (S K : List ℕ) (spent : Spent b S K) where
 
     crc-due : (l : Layout) (command : Command) (right : Bool) → Reach → dataWords command ≤ got
         → InFrame command got mine released blocked g S K → Good b g S K (crcDue l b command mine blocked right)
-    unfolding crcDue InFrame dataWords
+    unfolding crcDue InFrame
     crc-due l Filler right reach all h k = quiet (h .0) Idle rests-idle
     crc-due l Malformed right reach all h k = quiet (h .0) Idle rests-idle
     crc-due l (Forward crc words ends reads) right reach all h k =
@@ -283,7 +288,7 @@ module _ (b : Bridge) (g : Log) (S K : List ℕ) (spent : Spent b S K) where
 
   cut-open : Reach → (crc : Bool) (words ends : ℕ) (reads : Bool) (got mine : ℕ) (released : Bool) → Open crc words got mine released g S K
       → Loses (cutDeed (Forward crc words ends reads) got mine released)
-  unfolding cutDeed clears Open dataWords pick
+  unfolding cutDeed clears Open pick
   cut-open reach crc words ends reads got mine true h =
       pick-keeps Loses (ltb got words) _ _
       (λ u k. let d : got < words = ltb-true _ _ u in absurd (omega (arith, missing crc words got h (k refl))))

@@ -22,12 +22,13 @@ use Rattle.state.specs.declared.Sender.{Sender}
 use Rattle.state.specs.declared.Sending.{Sending}
 use Rattle.state.specs.declared.Store.{Store}
 use Rattle.state.specs.declared.Store.the-variants.{Keep, Put}
-use Rattle.sender.specs.Sender.{choose, bitSent, queueSent, senderAfter, advanced, finished, isStarve}
-use Rattle.sender.specs.declared.Next.{Next}
-use Rattle.sender.specs.declared.Next.the-variants.{GoOn, LoadWord, Starve, LoadEnd, StartWords, StartEnds, Stay}
+use Rattle.next.specs.Next.{choose, bitSent, isStarve}
+use Rattle.sender.specs.Sender.{queueSent, senderAfter, advanced, finished}
+use Rattle.next.specs.declared.Next.{Next}
+use Rattle.next.specs.declared.Next.the-variants.{GoOn, LoadWord, Starve, LoadEnd, StartWords, StartEnds, Stay}
 use Rattle.bridge.specs.Runs.{AllSent}
 use Rattle.order.specs.Accepted.{came}
-use Rattle.order.proofs.Truth.{never}
+use Rattle.base.specs.Truth.{never}
 use Rattle.order.proofs.Ring.{view, length-view, view-back, view-pop, view-push}
 use Rattle.order.proofs.Waiting.{QueueOk, Leaves, waiting-push, queue-push, waiting-begin, queue-begin, leaves-all, leaves-set, leaves-returned}
 use Rattle.order.proofs.Account.{counted, countsOf, counts-snoc, sum}
@@ -231,7 +232,6 @@ module _ (s : Sending) (cells : List ℕ) (bits : List Bool) (S K : List ℕ) (i
           record { exact = exact-stay (s .sender) _ _ bits S K (i .exact) b l e; head = i .head; cells-are = i .cells-are; queue = i .queue }
 
   after-starve : After Starve
-  unfolding isStarve
   after-starve f = never true refl f
 
   pub holds-tick : (may : Bool) → After (choose s may)

@@ -16,12 +16,14 @@ use Rattle.state.specs.Rings.{oldest, written}
 use Rattle.state.specs.declared.Clock.{Clock}
 use Rattle.state.specs.declared.Phase.{Phase}
 use Rattle.state.specs.declared.Phase.the-variants.{Idle}
-use Rattle.sender.specs.Sender.{mayStart, choose, advanced, sentBy, tickSender}
-use Rattle.sender.specs.declared.Sent.{Sent as SentBits}
+use Rattle.next.specs.Next.{mayStart, choose}
+use Rattle.sender.specs.Sender.{advanced, sentBy, tickSender}
 use Rattle.reader.specs.Reader.{tickReader}
-use Rattle.host.specs.Plan.{settled, concluded, marked, performed}
-use Rattle.host.specs.declared.Plan.{Plan}
-use Rattle.events.specs.Events.{powered, hosted, flagsSent, phaseAfter, controlTicked, tickEnds, tickHears, ticked, clocked, reacted}
+use Rattle.plan.specs.Plan.{settled, concluded, marked, performed}
+use Rattle.plan.specs.declared.Plan.{Plan}
+use Rattle.events.specs.Events.{powered, hosted, reacted}
+use Rattle.ticks.specs.Ticks.{flagsSent, phaseAfter, controlTicked, tickEnds, tickHears, ticked}
+use Rattle.clock.specs.Clock.{clocked}
 use Rattle.events.specs.Turn.{Out, turned, turn}
 use Rattle.events.specs.declared.Event.{Event}
 use Rattle.events.specs.declared.Event.the-variants.{Power, Word, Release, Tick, Clock as ClockReading}
@@ -29,8 +31,9 @@ use Rattle.bridge.specs.Runs.{Config, RightStores, faults, leftBy, lineBit, pow
 use Rattle.bridge.proofs.Plans.{tame-word, tame-release}
 use Rattle.bridge.proofs.Reached.{length-written}
 use Rattle.order.specs.Accepted.{planOf, Log, came, accepts, collects, settle, logged, listed}
+use Rattle.sender.specs.declared.Sent.{Sent as SentBits}
 use Rattle.order.specs.Premises.{Typed, isPower, losing}
-use Rattle.order.proofs.Truth.{never, or-none}
+use Rattle.base.specs.Truth.{never, or-none}
 use Rattle.order.proofs.Ring.{view, length-view}
 use Rattle.order.proofs.Waiting.{leaves-then}
 use Rattle.order.proofs.Account.{countsOf, concat, lengths, sum, still-there}

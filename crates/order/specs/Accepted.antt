@@ -13,9 +13,10 @@ use Rattle.state.specs.declared.Phase.{Phase}
 use Rattle.state.specs.declared.Phase.the-variants.{Idle, Collecting, Answering, Discarding}
 use Rattle.state.specs.declared.Store.{Store}
 use Rattle.state.specs.declared.Store.the-variants.{Keep, Put}
-use Rattle.host.specs.Plan.{plain}
-use Rattle.host.specs.Frames.{planned, releasedIn}
-use Rattle.host.specs.declared.Plan.{Plan}
+use Rattle.plan.specs.Plan.{plain}
+use Rattle.host.specs.Frames.{planned}
+use Rattle.release.specs.Release.{releasedIn}
+use Rattle.plan.specs.declared.Plan.{Plan}
 use Rattle.events.specs.declared.Event.{Event}
 use Rattle.events.specs.declared.Event.the-variants.{Power, Word, Release, Tick, Clock as ClockReading}
 use Rattle.bridge.specs.Runs.{Config, next}

@@ -7,10 +7,11 @@ use mathlib.Core.List.{List, [], _∷_}
 use mathlib.Core.Logic.{_≢_}
 use Prim.Native.Nat.{ℕ, _<_}
 use lib.Dec.{ltb}
+use Rattle.base.specs.Bits.{wordEnd}
 use Rattle.command.specs.Layouts.{Layout}
 use Rattle.registers.specs.Registers.{blocking}
 use Rattle.state.specs.Notes.{noteNumber}
-use Rattle.host.specs.Forward.{clears}
+use Rattle.forwards.specs.Forward.{clears}
 use Rattle.events.specs.declared.Event.{Event}
 use Rattle.events.specs.declared.Event.the-variants.{Power, Word, Release, Tick, Clock as ClockReading}
 use Rattle.bridge.specs.Runs.{Config, faults, outOf, next, allSent, AllSent}
@@ -19,10 +20,10 @@ use Rattle.order.specs.Accepted.{planOf}
 -- words and readings are of sixteen bits
 abbrev pub Typed : Event → Type 0
 Typed (Power good) = Unit {0}
-Typed (Word w) = w < 65536
+Typed (Word w) = w < wordEnd
 Typed Release = Unit {0}
 Typed (Tick sin) = Unit {0}
-Typed (ClockReading reading) = reading < 65536
+Typed (ClockReading reading) = reading < wordEnd
 
 unfoldable pub isPower : Event → Bool
 isPower (Power good) = true
@@ -69,10 +70,10 @@ AskedPremises l c (e ∷ es) = FairAsAsked l c e × AskedPremises l (next l c e)
 -- `Premises` as a test, for runs that are computed.
 unfoldable pub typed : Event → Bool
 typed (Power good) = true
-typed (Word w) = ltb w 65536
+typed (Word w) = ltb w wordEnd
 typed Release = true
 typed (Tick sin) = true
-typed (ClockReading reading) = ltb reading 65536
+typed (ClockReading reading) = ltb reading wordEnd
 
 unfoldable pub fair : Layout → Config → Event → Bool
 fair l c e = typed e && not (faults (outOf l c e .answer .note)) && (not (losing l c e) || allSent (c .bridge .sending))

@@ -19,17 +19,24 @@ use Rattle.script.specs.declared.Record.{Record}
 use Rattle.script.specs.declared.Record.the-variants.{Good, Bad}
 use Rattle.playing.specs.declared.Part.{Part}
 
+-- the longest line, and the length of the two that say what is wrong
+abbrev pub mostPrinted : ℕ
+mostPrinted = 17
+
+abbrev pub saidLength : ℕ
+saidLength = 11
+
 -- "A wrong head prints `bad script`; a wrong or cut record prints `bad record`": the two lines, in an array of the longest's size
 abbrev pub badScript : Line
 badScript = record {
   bytes = 0x62 ∷ 0x61 ∷ 0x64 ∷ 0x20 ∷ 0x73 ∷ 0x63 ∷ 0x72 ∷ 0x69 ∷ 0x70 ∷ 0x74 ∷ 0x0A ∷ 0 ∷ 0 ∷ 0 ∷ 0 ∷ 0 ∷ 0 ∷ [];
-  length = 11;
+  length = saidLength;
 }
 
 abbrev pub badRecord : Line
 badRecord = record {
   bytes = 0x62 ∷ 0x61 ∷ 0x64 ∷ 0x20 ∷ 0x72 ∷ 0x65 ∷ 0x63 ∷ 0x6F ∷ 0x72 ∷ 0x64 ∷ 0x0A ∷ 0 ∷ 0 ∷ 0 ∷ 0 ∷ 0 ∷ 0 ∷ [];
-  length = 11;
+  length = saidLength;
 }
 
 -- the bytes of a line
@@ -103,7 +110,7 @@ shown p cells = end (record { bridge = p .bridge; length = length (p .printed); 
 
 -- the longest line of each whole record, and `bad record`
 abbrev pub room : List ℕ → ℕ
-room records = length records / 3 * 17 + 11
+room records = length records / 3 * mostPrinted + saidLength
 
 -- Where the output has less room nothing is done: all is as lent, nothing printed, and the script does not go on.
 unfoldable pub play : Layout → Bridge → List ℕ → List ℕ → List ℕ → List ℕ → End
@@ -123,5 +130,5 @@ begun p out = record { part = p; out = out }
 unfoldable pub begin : List ℕ → List ℕ → Begun
 begin head cells =
     pick (isHead head) (begun (record { bridge = powerUp; length = 0; on = true }) cells)
-    (pick (leb 11 (length cells)) (begun (record { bridge = powerUp; length = 11; on = false }) (placed (bytesOf badScript) cells))
+    (pick (leb saidLength (length cells)) (begun (record { bridge = powerUp; length = saidLength; on = false }) (placed (bytesOf badScript) cells))
     (begun (record { bridge = powerUp; length = 0; on = false }) cells))

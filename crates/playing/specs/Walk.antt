@@ -10,7 +10,7 @@ use Rattle.events.specs.declared.Event.{Event}
 use Rattle.bridge.specs.Step.{step}
 use Rattle.script.specs.Script.{recordOf}
 use Rattle.playing.specs.declared.Part.{Part}
-use Rattle.playing.specs.Playing.{badRecord, bytesOf, lineFor, judged, End, end}
+use Rattle.playing.specs.Playing.{saidLength, badRecord, bytesOf, lineFor, judged, End, end}
 
 abbrev pub partOf : Bridge → ℕ → Bool → Part
 partOf b length on = record { bridge = b; length = length; on = on }
@@ -23,7 +23,7 @@ lineAt kind value o cells at =
 
 -- `bad record`, and the place after it
 abbrev pub stopAt : Bridge → List ℕ → List ℕ → List ℕ → ℕ → End
-stopAt b tx rx cells at = end (partOf b (at + 11) false) tx rx (sets cells at (bytesOf badRecord))
+stopAt b tx rx cells at = end (partOf b (at + saidLength) false) tx rx (sets cells at (bytesOf badRecord))
 
 unfoldable pub oneOf : Layout → Bridge → List ℕ → List ℕ → ℕ → ℕ → List ℕ → ℕ → End
 oneOf l b tx rx kind value cells at =

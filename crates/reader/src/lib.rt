@@ -64,7 +64,7 @@ fn began(receiving: Receiving, queue: Queue, flags: Flags, ear: Ear) -> Receivin
     ensures { λ r. ⌜ r ≡ beganOf receiving queue flags ear ⌝ }
 {
     let mut started = unclaimed(receiving, ear);
-    let i = state::claimed(queue);
+    let i = queue::claimed(queue);
     if i < queue.begun {
         let asked = queue.places[i as usize].store;
         let up = flags.rxffovf | flags.rxffuvf;
@@ -84,7 +84,7 @@ fn word_read(belongs: bool, queue: Queue, word: u16) -> Queue
     if !belongs {
         return queue;
     }
-    let i = state::claimed(queue);
+    let i = queue::claimed(queue);
     if queue.begun <= i {
         return queue;
     }
@@ -103,7 +103,7 @@ fn error_read(belongs: bool, queue: Queue) -> Queue
     if !belongs {
         return queue;
     }
-    let i = state::claimed(queue);
+    let i = queue::claimed(queue);
     if queue.begun <= i {
         return queue;
     }
@@ -124,13 +124,13 @@ fn end_read(belongs: bool, queue: Queue) -> Returned
     if !belongs {
         return same;
     }
-    let i = state::claimed(queue);
+    let i = queue::claimed(queue);
     if queue.begun <= i {
         return same;
     }
     let mut place = queue.places[i as usize];
     place.read = true;
-    state::give_back(queue, i, place)
+    queue::give_back(queue, i, place)
 }
 
 fn nothing_stored(receiving: Receiving, queue: Queue, flags: Flags, ended: bool) -> Taken

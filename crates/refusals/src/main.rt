@@ -1,201 +1,176 @@
-// Tries notes 1 and 2 (01 Notes) as a caller: stores of wrong lengths, and each rule of docs/RECORD-RULES.md broken alone, just past its
-// limit, beside the same record at the limit. A refusal has to leave the state and both stores as lent. Where a broken record is one that a
-// step would mend, or answer otherwise than 01 says, the good one's word is tried beside it (notes 4 and 5).
-mod cases;
-mod frames;
-mod pieces;
-mod places;
-mod records;
-mod same;
+// Tries notes 1 and 2 (01 Notes) as a caller, by the cases of a table: stores of wrong lengths, and each rule of docs/RECORD-RULES.md broken
+// alone, just past its limit, beside the same record at the limit. A refusal has to leave the record and both stores as lent. Where a broken
+// record is one that a step would mend, or answer otherwise than 01 says, the good one's word is tried beside it (notes 4 and 5). The table is
+// standard input; its head says how it is written. A line that cannot be read is a case that went wrong.
 
-use cases::Tally;
-use cases::broken;
-use cases::lengths;
-use cases::taken;
-use events::Event;
-use records::drdy;
-use records::in_mode;
-use records::queued;
-use records::waiting;
-use registers::Mode;
-use state::Bridge;
+use calls::BROKEN;
+use calls::STORES;
+use calls::TAKEN;
+use calls::Want;
+use libc::STDIN_FILENO;
+use libc::STDOUT_FILENO;
+use records::COLUMNS;
+use records::Fields;
+use table::Text;
+use table::byte;
+use table::change;
+use table::find;
+use table::mark_after;
+ghost use Prim.Native.Nat.{_≤_};
 
-fn event(start: Bridge, tx: &mut [u16], rx: &mut [u16], event: Event) -> Bridge {
-    let answer = bridge::step(start, tx, rx, event);
-    answer.state
+// The cases so far: refused with note 1, with note 2, taken, and those that went wrong.
+struct Tally {
+    stores: u64,
+    broken: u64,
+    taken: u64,
+    wrong: u64,
 }
 
-fn two_words(start: Bridge, tx: &mut [u16], rx: &mut [u16], first: u16, second: u16) -> Bridge {
-    let open = event(start, tx, rx, Event::Word(first));
-    event(open, tx, rx, Event::Word(second))
+fn print(text: &[u8]) {
+    io::write_all(STDOUT_FILENO, text);
 }
 
-// A frame's CRC word, then chip select released.
-fn closed(start: Bridge, tx: &mut [u16], rx: &mut [u16], crc: u16) -> Bridge {
-    let checked = event(start, tx, rx, Event::Word(crc));
-    event(checked, tx, rx, Event::Release)
+fn tell(number: u64, text: &[u8]) {
+    io::print_decimal(STDOUT_FILENO, number);
+    print(text);
 }
 
-fn frame(start: Bridge, tx: &mut [u16], rx: &mut [u16], first: u16, second: u16) -> Bridge {
-    let words = [first, second];
-    let full = two_words(start, tx, rx, first, second);
-    closed(full, tx, rx, crc16::crc_list(&words))
+fn one_more(count: u64) -> u64 {
+    std::num::wrapping_add_u64(count, 1)
 }
 
-// A clock reading, then REG_WR of STATUS bit 15: idle, and not what a power-up event gives.
-fn ready(tx: &mut [u16], rx: &mut [u16]) -> Bridge {
-    let read = event(Bridge::good(), tx, rx, Event::Clock(100));
-    frame(read, tx, rx, 0xB007, 0x8000)
+fn counted(tally: Tally, kind: u16) -> Tally {
+    let mut t = tally;
+    match kind {
+        STORES => t.stores = one_more(t.stores),
+        BROKEN => t.broken = one_more(t.broken),
+        TAKEN => t.taken = one_more(t.taken),
+        _ => t.wrong = one_more(t.wrong),
+    }
+    t
 }
 
-fn idle() -> Bridge {
-    let mut tx = [0u16; 512];
-    let mut rx = [0u16; 256];
-    ready(&mut tx, &mut rx)
+fn judged(tally: Tally, kind: u16, right: bool) -> Tally {
+    if right {
+        print(b"\n");
+        return counted(tally, kind);
+    }
+    print(b": WRONG\n");
+    counted(tally, 0)
 }
 
-// One command under way, and an open FWD_WR_CRC with one of its two words: every event changes it.
-fn busy() -> Bridge {
-    let mut tx = [0u16; 512];
-    let mut rx = [0u16; 256];
-    let start = ready(&mut tx, &mut rx);
-    let queued = frame(start, &mut tx, &mut rx, 0x2000, 0xAAF0);
-    let begun = event(queued, &mut tx, &mut rx, Event::Tick(true));
-    two_words(begun, &mut tx, &mut rx, 0x2001, 0x1234)
+fn said(calls: u16, word: u16) -> Want {
+    Want {
+        calls: calls,
+        word: word,
+    }
 }
 
-fn wrong_lengths(tally: Tally, good: Bridge) -> Tally {
-    let mut t = taken(tally, b"TX 512, RX 256", good);
-    t = lengths(t, b"TX 0", good, 0, 256);
-    t = lengths(t, b"TX 1", good, 1, 256);
-    t = lengths(t, b"TX 511", good, 511, 256);
-    t = lengths(t, b"TX 513", good, 513, 256);
-    t = lengths(t, b"TX 1024", good, 1024, 256);
-    t = lengths(t, b"RX 0", good, 512, 0);
-    t = lengths(t, b"RX 1", good, 512, 1);
-    t = lengths(t, b"RX 255", good, 512, 255);
-    t = lengths(t, b"RX 257", good, 512, 257);
-    t = lengths(t, b"RX 512", good, 512, 512);
-    t = lengths(t, b"TX 0, RX 0", good, 0, 0);
-    lengths(t, b"TX 256, RX 512", good, 256, 512)
+// By two bytes of the text that is printed: `taken`, `note 1, as lent`, `word note 5, taken`.
+fn wanted(seventh: u8, twelfth: u8) -> Want {
+    match seventh {
+        b'1' => said(STORES, 0),
+        b'2' => said(BROKEN, 0),
+        b'n' => said(TAKEN, (twelfth % 16) as u16),
+        _ => said(TAKEN, 0),
+    }
 }
 
-// "Where several apply the lowest is reported": note 1 before note 2.
-fn both_wrong(tally: Tally, good: Bridge) -> Tally {
-    let bad = records::rx(good, 256, 0);
-    let mut t = broken(tally, b"busy, RX head 256", bad);
-    t = lengths(t, b"TX 511, RX head 256", bad, 511, 256);
-    t = lengths(t, b"TX 513, RX head 256", bad, 513, 256);
-    t = lengths(t, b"RX 255, RX head 256", bad, 512, 255);
-    t = lengths(t, b"RX 257, RX head 256", bad, 512, 257);
-    lengths(t, b"TX 511, RX 255, RX head 256", bad, 511, 255)
+// The start record, and what the cases of a group have in common.
+fn change_common(fields: &mut Fields, text: &Text, group: usize) -> bool
+    requires { ⌜ group ≤ 65535 ⌝ }
+{
+    let start = find(text, 0, 65535, b'<');
+    let idle = change(fields, text, start, find(text, start, 65535, b'>'));
+    let from = mark_after(text, group);
+    idle & change(fields, text, from, find(text, group, 65535, b'\n'))
 }
 
-// TX's words wait.
-fn rings(tally: Tally, start: Bridge) -> Tally {
-    let half = queued(256, 0);
-    let full = waiting(start, half, half, 512);
-    let over = waiting(start, half, queued(257, 0), 513);
-    let mut t = taken(tally, b"TX head 511", records::tx_head(start, 511));
-    t = broken(t, b"TX head 512", records::tx_head(start, 512));
-    t = broken(t, b"TX head 65535", records::tx_head(start, 65535));
-    t = taken(t, b"TX count 512", full);
-    t = broken(t, b"TX count 513", over);
-    t = taken(t, b"RX head 255", records::rx(start, 255, 0));
-    t = broken(t, b"RX head 256", records::rx(start, 256, 0));
-    t = broken(t, b"RX head 65535", records::rx(start, 65535, 0));
-    t = taken(t, b"RX count 256", records::rx(start, 0, 256));
-    t = broken(t, b"RX count 257", records::rx(start, 0, 257));
-    broken(t, b"RX count 65535", records::rx(start, 0, 65535))
+fn is_read(read: bool) -> bool {
+    if !read {
+        print(b" cannot be read");
+    }
+    read
 }
 
-// All writable bits, then each other bit alone.
-fn spictrl(tally: Tally, start: Bridge) -> Tally {
-    let mut t = taken(tally, b"SPICTRL FF01", records::spictrl(start, 0xFF01));
-    t = broken(t, b"SPICTRL bit 1", records::spictrl(start, 0x0002));
-    t = broken(t, b"SPICTRL bit 2", records::spictrl(start, 0x0004));
-    t = broken(t, b"SPICTRL bit 3", records::spictrl(start, 0x0008));
-    t = broken(t, b"SPICTRL bit 4", records::spictrl(start, 0x0010));
-    t = broken(t, b"SPICTRL bit 5", records::spictrl(start, 0x0020));
-    t = broken(t, b"SPICTRL bit 6", records::spictrl(start, 0x0040));
-    broken(t, b"SPICTRL bit 7", records::spictrl(start, 0x0080))
+// Behind a first semicolon a case's own changes, and behind a second what its word changes.
+fn is_right(text: &Text, group: usize, from: usize, end: usize, want: Want) -> bool
+    requires { ⌜ group ≤ 65535 ⌝ }
+    requires { ⌜ from ≤ 65535 ⌝ }
+    requires { ⌜ end ≤ 65535 ⌝ }
+{
+    let mut lent = [0u16; COLUMNS];
+    let common = change_common(&mut lent, text, group);
+    let own = change(&mut lent, text, from, find(text, from, end, b';'));
+    let mut after = lent;
+    let all = change(&mut after, text, from, end);
+    is_read(common & own & all) & calls::tried(&lent, &after, want)
 }
 
-fn diagmask(tally: Tally, start: Bridge) -> Tally {
-    let mut t = taken(tally, b"DIAGMASK 0B01", records::diagmask(start, 0x0B01));
-    t = broken(t, b"DIAGMASK bit 1", records::diagmask(start, 0x0002));
-    t = broken(t, b"DIAGMASK bit 2", records::diagmask(start, 0x0004));
-    t = broken(t, b"DIAGMASK bit 3", records::diagmask(start, 0x0008));
-    t = broken(t, b"DIAGMASK bit 4", records::diagmask(start, 0x0010));
-    t = broken(t, b"DIAGMASK bit 5", records::diagmask(start, 0x0020));
-    t = broken(t, b"DIAGMASK bit 6", records::diagmask(start, 0x0040));
-    t = broken(t, b"DIAGMASK bit 7", records::diagmask(start, 0x0080));
-    t = broken(t, b"DIAGMASK bit 10", records::diagmask(start, 0x0400));
-    t = broken(t, b"DIAGMASK bit 12", records::diagmask(start, 0x1000));
-    t = broken(t, b"DIAGMASK bit 13", records::diagmask(start, 0x2000));
-    t = broken(t, b"DIAGMASK bit 14", records::diagmask(start, 0x4000));
-    broken(t, b"DIAGMASK bit 15", records::diagmask(start, 0x8000))
+fn case(tally: Tally, text: &Text, group: usize, at: usize, end: usize) -> Tally
+    requires { ⌜ group ≤ 65535 ⌝ }
+    requires { ⌜ at ≤ end ⌝ }
+    requires { ⌜ end ≤ 65535 ⌝ }
+{
+    let semicolon = find(text, at, end, b';');
+    let colon = find(text, at, semicolon, b':');
+    let line: &[u8] = text;
+    print(&line[at..semicolon]);
+    let want = wanted(byte(text, colon + 7), byte(text, colon + 12));
+    let right = is_right(text, group, mark_after(text, semicolon), end, want);
+    judged(tally, want.calls, right & (colon < semicolon))
 }
 
-fn levels(tally: Tally, start: Bridge) -> Tally {
-    let mut t = taken(tally, b"TXFFLVL 511", records::levels(start, 511, 0));
-    t = broken(t, b"TXFFLVL 512", records::levels(start, 512, 0));
-    t = broken(t, b"TXFFLVL bit 15", records::levels(start, 0x8000, 0));
-    t = taken(t, b"RXFFLVL 255", records::levels(start, 0, 255));
-    t = broken(t, b"RXFFLVL 256", records::levels(start, 0, 256));
-    broken(t, b"RXFFLVL bit 15", records::levels(start, 0, 0x8000))
+fn begins_case(first: u8) -> bool {
+    (first != b'#') & (first != b'=') & (first != b'>') & (first != b'\n') & (first != 0)
 }
 
-// "Bad OTP stays in INIT", and nothing else is there.
-fn modes(tally: Tally, start: Bridge) -> Tally {
-    let mut t = taken(tally, b"NORMAL", in_mode(start, Mode::Normal, false));
-    t = broken(t, b"NORMAL, OTP", in_mode(start, Mode::Normal, true));
-    t = taken(t, b"INIT, OTP", in_mode(start, Mode::Init, true));
-    t = broken(t, b"INIT, no OTP", in_mode(start, Mode::Init, false));
-    t = taken(t, b"FAILSAFE", in_mode(start, Mode::Failsafe, false));
-    broken(t, b"FAILSAFE, OTP", in_mode(start, Mode::Failsafe, true))
+fn line(tally: Tally, text: &Text, group: usize, at: usize, end: usize) -> Tally
+    requires { ⌜ group ≤ 65535 ⌝ }
+    requires { ⌜ at ≤ end ⌝ }
+    requires { ⌜ end ≤ 65535 ⌝ }
+{
+    if begins_case(byte(text, at)) {
+        return case(tally, text, group, at, end);
+    }
+    tally
 }
 
-// "DRDY is 1 if RX is empty, else 0 if its count exceeds RXFFLVL .. else as before"
-fn drdys(tally: Tally, start: Bridge) -> Tally {
-    let mut t = taken(tally, b"RX empty, DRDY 1", drdy(start, 0, 0, true));
-    t = broken(t, b"RX empty, DRDY 0", drdy(start, 0, 0, false));
-    t = taken(t, b"RX 1 of level 1, DRDY 1", drdy(start, 1, 1, true));
-    t = taken(t, b"RX 1 of level 1, DRDY 0", drdy(start, 1, 1, false));
-    t = taken(t, b"RX 1 of level 0, DRDY 0", drdy(start, 0, 1, false));
-    t = broken(t, b"RX 1 of level 0, DRDY 1", drdy(start, 0, 1, true));
-    t = taken(
-        t,
-        b"RX 256 of level 255, DRDY 0",
-        drdy(start, 255, 256, false),
-    );
-    broken(
-        t,
-        b"RX 256 of level 255, DRDY 1",
-        drdy(start, 255, 256, true),
-    )
+// Where the changes stand that the cases from here on have in common.
+fn group_at(first: u8, group: usize, at: usize) -> usize
+    requires { ⌜ group ≤ at ⌝ }
+    ensures { λ r. ⌜ r ≤ at ⌝ }
+{
+    if first == b'=' {
+        return at;
+    }
+    group
 }
 
-fn control(tally: Tally, start: Bridge) -> Tally {
-    let mut t = rings(tally, start);
-    t = spictrl(t, start);
-    t = diagmask(t, start);
-    t = levels(t, start);
-    t = modes(t, start);
-    drdys(t, start)
+fn walked(text: &Text) -> Tally {
+    let mut tally = Tally {
+        stores: 0,
+        broken: 0,
+        taken: 0,
+        wrong: 0,
+    };
+    let mut at = find(text, 0, 65535, b'>');
+    let mut group = at;
+    while at < 65535 {
+        let end = find(text, at, 65535, b'\n');
+        group = group_at(byte(text, at), group, at);
+        tally = line(tally, text, group, at, end);
+        at = end + 1;
+    }
+    tally
 }
 
 fn main() {
-    let start = idle();
-    let good = busy();
-    let mut t = wrong_lengths(cases::none(), good);
-    t = both_wrong(t, good);
-    t = taken(t, b"idle", start);
-    t = control(t, start);
-    t = places::places(t, start);
-    t = pieces::sends(t, start);
-    t = pieces::hears(t, start);
-    t = frames::frames(t, start);
-    t = broken(t, b"far past every limit", records::far(start));
-    cases::print_tally(t);
+    let mut text = [0u8; 65536];
+    io::read_full(STDIN_FILENO, &mut text);
+    let tally = walked(&text);
+    tell(tally.stores, b" of note 1, ");
+    tell(tally.broken, b" of note 2, ");
+    tell(tally.taken, b" taken, ");
+    tell(tally.wrong, b" wrong; six calls each\n");
 }

@@ -10,7 +10,7 @@ use Rattle.registers.specs.Registers.{table, resetRegs, cleared, isNorma
 use Rattle.registers.specs.Writing.{modeAfter, writeStatus, writeMasked, writeOf}
 
 power-up : statusOf powerUpControl ≡ 0x0403
-unfolding statusOf err modeNumber isFailsafe bit odd flag powerUpControl powerUpFlags resetRegs table
+unfolding statusOf err bit odd flag powerUpControl powerUpFlags resetRegs table
 power-up = refl
 
 abbrev badOtpFlags : Flags
@@ -35,16 +35,16 @@ abbrev badOtp : Control
 badOtp = record { mode = Init; drdy = true; flags = badOtpFlags; regs = resetRegs }
 
 bad-otp : statusOf badOtp ≡ 0x041B
-unfolding statusOf err modeNumber isFailsafe bit odd flag resetRegs table
+unfolding statusOf err bit odd flag resetRegs table
 bad-otp = refl
 
 abbrev afterClear : Control
 afterClear = writeOf powerUpControl false 7 0x8000 .control
 
 after-clear : statusOf afterClear ≡ 0x0400
-unfolding statusOf err modeNumber isFailsafe bit odd flag powerUpControl powerUpFlags resetRegs table writeOf writeMasked writeStatus cleared pick
+unfolding statusOf err bit odd flag powerUpControl powerUpFlags resetRegs table writeOf writeMasked writeStatus cleared pick
 after-clear = refl
 
 then-forced : statusOf (writeOf afterClear false 5 0x0004 .control) ≡ 0x0431
-unfolding statusOf err modeNumber isFailsafe isNormal bit odd flag powerUpControl powerUpFlags resetRegs table writeOf writeMasked writeStatus modeAfter cleared pick
+unfolding statusOf err bit odd flag powerUpControl powerUpFlags resetRegs table writeOf writeMasked writeStatus modeAfter cleared pick
 then-forced = refl

@@ -46,10 +46,17 @@ resetRegs = record {
   diagmask = rowOf 6 .reset;
 }
 
+-- the levels that TXFFLVL's and RXFFLVL's fields can hold: bits 8..0 and 7..0. 001 7.6.4, 7.6.5
+abbrev pub txLevels : ℕ
+txLevels = 512
+
+abbrev pub rxLevels : ℕ
+rxLevels = 256
+
 -- Record rule: the registers hold no bit that a write cannot reach, so that "bits that are not writable read 0".
 abbrev pub regsSound : Regs → Bool
 regsSound r =
-    eqb (bitAnd (r .spictrl) (rowOf 1 .writable)) (r .spictrl) && ltb (r .txfflvl) 512 && ltb (r .rxfflvl) 256
+    eqb (bitAnd (r .spictrl) (rowOf 1 .writable)) (r .spictrl) && ltb (r .txfflvl) txLevels && ltb (r .rxfflvl) rxLevels
     && eqb (bitAnd (r .diagmask) (rowOf 6 .writable)) (r .diagmask)
 
 -- "Clearing clears all but OTP"
@@ -76,17 +83,17 @@ unfoldable pub blocking : Flags → Bool
 blocking f = f .txffovf || f .txffuvf || f .«queue_ovf»
 
 -- "state (0 NORMAL, 1 INIT, 3 FAILSAFE)". 001 7.6.8
-unfoldable pub modeNumber : Mode → ℕ
+abbrev pub modeNumber : Mode → ℕ
 modeNumber Normal = 0
 modeNumber Init = 1
 modeNumber Failsafe = 3
 
-unfoldable pub isNormal : Mode → Bool
+abbrev pub isNormal : Mode → Bool
 isNormal Normal = true
 isNormal Init = false
 isNormal Failsafe = false
 
-unfoldable pub isFailsafe : Mode → Bool
+abbrev pub isFailsafe : Mode → Bool
 isFailsafe Normal = false
 isFailsafe Init = false
 isFailsafe Failsafe = true

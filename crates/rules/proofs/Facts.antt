@@ -25,7 +25,10 @@ use Rattle.state.specs.declared.Sender.{Sender}
 use Rattle.state.specs.declared.Sending.{Sending}
 use Rattle.state.specs.declared.Phase.{Phase}
 use Rattle.state.specs.declared.Bridge.{Bridge}
-use Rattle.rules.specs.Sound.{ringSound, placeSound, isFresh, waits, awaits, roleSound, slotSound, slotsBelow, queueSound, pieceSound, lastBegun, senderSound, earSound, marksSound, readerSound, otpSound, drdySound, controlSound, isUnmarked, lastLeft, ledger, sound}
+use Rattle.rules.specs.Sound.{ringSound, lastLeft, ledger, sound}
+use Rattle.place_rules.specs.Places.{placeSound, isFresh, waits, awaits, roleSound, slotSound, slotsBelow, queueSound}
+use Rattle.line_rules.specs.Line.{pieceSound, lastBegun, senderSound, earSound, marksSound, readerSound}
+use Rattle.frame_rules.specs.Frames.{otpSound, drdySound, controlSound, isUnmarked}
 use Rattle.rules.specs.Facts.{Standing, SenderFit, Balanced, Sound, allSome}
 
 pub ring-fit : (size : ℕ) (r : Ring) → ringSound size r ≡ true → RingFit size r
@@ -156,7 +159,7 @@ sender-from s q f = let r : (idle s && underWay q) ≡ false = f .rest in and-bo
 -- the sender's counts fit: what is left is of the place under way
 module _ (gone left ends : ℕ) (busy : Bool) (words extra : ℕ) where
   pub piece-gone : (u : Piece) → pieceSound u gone left ends busy words extra ≡ true → gone ≤ pieceLength u
-  unfolding pieceSound pieceLength
+  unfolding pieceSound
   piece-gone Pause h = let e : gone ≡ 0 = eqb-true _ _ (search (and-l, and-r)) in omega arith
   piece-gone StartBit h = let e : gone ≡ 1 = eqb-true _ _ (search (and-l, and-r)) in omega arith
   piece-gone (WordPiece w) h = leb-true _ _ (search (and-l, and-r))
@@ -236,7 +239,6 @@ sound-from b f =
     (ledger-from (b .sending) (b .frame .phase) (f .ledger))
 
 pub piece-most : (p : Piece) → pieceLength p ≤ 18
-unfolding pieceLength
 piece-most Pause = omega arith
 piece-most StartBit = omega arith
 piece-most (WordPiece w) = omega arith
@@ -282,9 +284,9 @@ pub host-fit : (b : Bridge) → sound b ≡ true → HostFit b
 host-fit b h = fit-of b (sound-facts b h)
 
 pub power-up-sound : sound powerUp ≡ true
-unfolding powerUp powerUpControl powerUpFlags resetRegs table noPlace pieceLength pieceSound slotsBelow slotSound earSound marksSound otpSound blocking isUnmarked phaseSound mineOf toCome waiting wordsOf pick
+unfolding powerUp powerUpControl powerUpFlags resetRegs table noPlace pieceSound slotsBelow slotSound earSound marksSound blocking isUnmarked phaseSound mineOf toCome waiting wordsOf pick
 power-up-sound = refl
 
 pub power-up-bad-sound : sound powerUpBad ≡ true
-unfolding powerUpBad badControl powerUpControl powerUpFlags resetRegs table noPlace pieceLength pieceSound slotsBelow slotSound earSound marksSound otpSound blocking isUnmarked phaseSound mineOf toCome waiting wordsOf pick
+unfolding powerUpBad badControl powerUpControl powerUpFlags resetRegs table noPlace pieceSound slotsBelow slotSound earSound marksSound blocking isUnmarked phaseSound mineOf toCome waiting wordsOf pick
 power-up-bad-sound = refl

@@ -6,6 +6,7 @@ use Prim.Native.Nat.{ℕ, suc, _+_, _-_, _≤_, _<_}
 use lib.Dec.{ltb}
 use Rattle.registers.specs.Registers.{regsSound, blocking}
 use Rattle.registers.specs.declared.Control.{Control}
+use Rattle.state.specs.Rings.{txSize, rxSize}
 use Rattle.state.specs.Queue.{placeAt, waiting, wordsOf, underWay, isDone}
 use Rattle.state.specs.Frame.{mineOf, toCome, phaseSound}
 use Rattle.state.specs.Facts.{RingFit, QueueFit}
@@ -16,7 +17,10 @@ use Rattle.state.specs.declared.Sender.{Sender}
 use Rattle.state.specs.declared.Sending.{Sending}
 use Rattle.state.specs.declared.Phase.{Phase}
 use Rattle.state.specs.declared.Bridge.{Bridge}
-use Rattle.rules.specs.Sound.{waits, awaits, pieceSound, lastBegun, earSound, marksSound, otpSound, drdySound, isUnmarked, lastLeft}
+use Rattle.place_rules.specs.Places.{waits, awaits}
+use Rattle.line_rules.specs.Line.{pieceSound, lastBegun, earSound, marksSound}
+use Rattle.frame_rules.specs.Frames.{otpSound, drdySound, isUnmarked}
+use Rattle.rules.specs.Sound.{lastLeft}
 
 -- what each place in use is: behind the youngest that has begun sent and not yet read, that one not done, the others waiting
 pub record Standing (q : Queue) : Type 0 where
@@ -40,8 +44,8 @@ pub record Balanced (s : Sending) (p : Phase) : Type 0 where
   pub last : toCome p ≤ lastLeft s
 
 pub record Sound (b : Bridge) : Type 0 where
-  pub tx : RingFit 512 (b .sending .tx)
-  pub rx : RingFit 256 (b .receiving .rx)
+  pub tx : RingFit txSize (b .sending .tx)
+  pub rx : RingFit rxSize (b .receiving .rx)
   pub regs : regsSound (b .control .regs) ≡ true
   pub control : ControlRules (b .control) (b .receiving .rx .count) (b .frame .phase)
   pub queue : QueueFit (b .sending .queue)

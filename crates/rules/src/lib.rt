@@ -1,19 +1,12 @@
 // The record rules (01 Notes, note 2), as a test. It asks nothing of the state, so sums are taken in 32 bits.
-mod frames;
-mod marks;
-mod places;
-mod sending;
-
-use state::Bridge;
-use state::Phase;
-use state::Queue;
-use state::Ring;
-use state::Sending;
 ghost use mathlib.Core.Path.{_≡_};
 ghost use Prim.Native.Nat.{_+_, _≤_};
 ghost use Rattle.state.specs.Queue.{waiting, wordsOf};
-ghost use Rattle.rules.specs.Sound.{ringSound, queueSound, flagsSound, lastLeft, ledger as ledgerOf, sound as soundOf};
-use registers::Flags;
+ghost use Rattle.rules.specs.Sound.{ringSound, lastLeft, ledger as ledgerOf, sound as soundOf};
+use state::Bridge;
+use state::Phase;
+use state::Ring;
+use state::Sending;
 
 fn ring_sound(ring: Ring, size: u16) -> bool
     ensures { λ r. ⌜ r ≡ ringSound size ring ⌝ }
@@ -21,27 +14,12 @@ fn ring_sound(ring: Ring, size: u16) -> bool
     (ring.head < size) & (ring.count <= size)
 }
 
-fn queue_sound(queue: Queue) -> bool
-    ensures { λ r. ⌜ r ≡ queueSound queue ⌝ }
-{
-    (queue.begun <= queue.used) & (queue.used <= 8) & places::places_sound(queue)
-}
-
-// With a blocking flag up, an open forward is marked as blocked.
-fn flags_sound(flags: Flags, phase: Phase) -> bool
-    ensures { λ r. ⌜ r ≡ flagsSound flags phase ⌝ }
-{
-    let up = registers::blocking(flags);
-    let unmarked = frames::is_unmarked(phase);
-    !(up & unmarked)
-}
-
 fn last_left(sending: Sending) -> u16
     ensures { λ r. ⌜ r ≡ lastLeft sending ⌝ }
 {
     let queue = sending.queue;
     if queue.begun < queue.used {
-        let youngest = state::place_at(queue, queue.used - 1);
+        let youngest = queue::place_at(queue, queue.used - 1);
         return youngest.words;
     }
     sending.sender.left
@@ -51,9 +29,9 @@ fn ledger(sending: Sending, phase: Phase, waiting_words: u32) -> bool
     requires { ⌜ («waiting_words» ≡ wordsOf (waiting (sending .queue))) × («waiting_words» ≤ 524280) ⌝ }
     ensures { λ r. ⌜ r ≡ ledgerOf sending phase ⌝ }
 {
-    let due = frames::to_come(phase);
+    let due = frame_rules::to_come(phase);
     let held = sending.tx.count as u32 + due as u32;
-    let taken = sending.sender.left as u32 + waiting_words + frames::mine_of(phase) as u32;
+    let taken = sending.sender.left as u32 + waiting_words + frame_rules::mine_of(phase) as u32;
     (held == taken) & (due <= last_left(sending))
 }
 
@@ -67,14 +45,14 @@ pub fn sound(bridge: Bridge) -> bool
     let reader = receiving.reader;
     let frame = bridge.frame;
     let phase = frame.phase;
-    let waiting = places::words_waiting(sending.queue);
+    let waiting = place_rules::words_waiting(sending.queue);
     ring_sound(sending.tx, 512)
         & ring_sound(receiving.rx, 256)
-        & marks::control_sound(control, receiving.rx.count)
-        & queue_sound(sending.queue)
-        & sending::sender_sound(sending.sender, sending.queue)
-        & marks::reader_sound(reader, sending.queue, control.flags)
-        & frames::phase_sound(phase)
-        & flags_sound(control.flags, phase)
+        & frame_rules::control_sound(control, receiving.rx.count)
+        & place_rules::queue_sound(sending.queue)
+        & line_rules::sender_sound(sending.sender, sending.queue)
+        & line_rules::reader_sound(reader, sending.queue, control.flags)
+        & frame_rules::phase_sound(phase)
+        & frame_rules::flags_sound(control.flags, phase)
         & ledger(sending, phase, waiting)
 }

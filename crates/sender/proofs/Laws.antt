@@ -4,11 +4,9 @@ use mathlib.Core.Bool.{Bool, true, false, _&&_}
 use mathlib.Core.List.{List, [], _∷_}
 use Prim.Native.Nat.{ℕ, zero, suc, _+_, _-_, _≤_, _<_}
 use native.Mathlib.Omega.{arith}
-use lib.Dec.{ltb}
 use lib.ListN.{getD, set}
 use borrow.Author.Tests.{ltb-true}
-use Rattle.base.specs.Pick.{pick, pick-lt, pick-not-lt, pick-told, pick-denied, pick-keeps, and-l, and-r}
-use Rattle.line.specs.Format.{pieceLength}
+use Rattle.base.specs.Pick.{pick-told, pick-denied, pick-keeps, and-l, and-r}
 use Rattle.line.specs.declared.Piece.{Piece}
 use Rattle.state.specs.Facts.{QueueFit, SendFit}
 use Rattle.state.specs.Queue.{placeAt, withPlace, noPlace, underWay, returned}
@@ -20,16 +18,15 @@ use Rattle.state.specs.declared.Returned.{Returned}
 use Rattle.state.specs.declared.Ring.{Ring}
 use Rattle.state.specs.declared.Sender.{Sender}
 use Rattle.state.specs.declared.Sending.{Sending}
-use Rattle.sender.specs.Room.{Room}
-use Rattle.sender.specs.Sender.{choose, bitSent, wordSent, queueSent, senderAfter, advanced, placeSent, finished, isStarve, isStart, sentBy, tickSender}
-use Rattle.sender.specs.declared.Next.{Next}
-use Rattle.sender.specs.declared.Next.the-variants.{GoOn, LoadWord, Starve, LoadEnd, StartWords, StartEnds, Stay}
+use Rattle.next.specs.Room.{Room}
+use Rattle.next.specs.Next.{choose, bitSent, isStarve, isStart}
+use Rattle.sender.specs.Sender.{wordSent, queueSent, senderAfter, advanced, placeSent, finished, sentBy, tickSender}
+use Rattle.next.specs.declared.Next.{Next}
+use Rattle.next.specs.declared.Next.the-variants.{GoOn, LoadWord, Starve, LoadEnd, StartWords, StartEnds, Stay}
+use Rattle.next.proofs.Laws.{choose-room}
 
 -- an arm knows the constructor
 module _ (n m : Next) (h : n ≡ m) where
-  pub to-bit : (s : Sender) (w : ℕ) (x : Bool) → x ≡ bitSent m s w → x ≡ bitSent n s w
-  to-bit s w x e = rw h e
-
   pub to-sender : (s : Sending) (w : ℕ) (x : Sender) → x ≡ senderAfter m s w → x ≡ senderAfter n s w
   to-sender s w x e = rw h e
 
@@ -38,12 +35,6 @@ module _ (n m : Next) (h : n ≡ m) where
 
   pub to-advanced : (s : Sending) (w : ℕ) (x : Sending) → x ≡ advanced m s w → x ≡ advanced n s w
   to-advanced s w x e = rw h e
-
-  pub to-starve : (x : Bool) → x ≡ isStarve m → x ≡ isStarve n
-  to-starve x e = rw h e
-
-  pub to-start : (x : Bool) → x ≡ isStart m → x ≡ isStart n
-  to-start x e = rw h e
 
 -- a start's place
 module _ (q : Queue) (n : Next) (r : Room q n) (f : QueueFit q) where
@@ -55,13 +46,6 @@ module _ (q : Queue) (n : Next) (r : Room q n) (f : QueueFit q) where
 
   pub ends-fit : n ≡ StartWords → placeAt q (q .begun) .ends + 1 < 65536
   ends-fit h = omega (arith, f .ends (q .begun) (subst (Room q) h r))
-
--- a piece by what its length was told to be
-pub piece-more : (g n : ℕ) (p : Piece) (r x y : Next) → n ≡ pieceLength p → g < n → r ≡ x → r ≡ pick (ltb g (pieceLength p)) x y
-piece-more g n p r x y h l e = pick-lt g _ r x y (rw (← h) l) e
-
-pub piece-over : (g n : ℕ) (p : Piece) (r x y : Next) → n ≡ pieceLength p → n ≤ g → r ≡ y → r ≡ pick (ltb g (pieceLength p)) x y
-piece-over g n p r x y h l e = pick-not-lt g _ r x y (rw (← h) l) e
 
 abbrev first : Piece → ℕ → ℕ → Sender
 first p l e = record { piece = p; gone = 1; left = l; ends = e }
@@ -81,20 +65,6 @@ pub to-loaded : (n : Next) (s : Sending) (w : ℕ) (t : Ring) (q : Queue) (a : S
     → q ≡ queueSent (s .queue) (s .sender .left) w → a ≡ senderAfter n s w → record { tx = t; queue = q; sender = a } ≡ advanced n s w
 unfolding advanced
 to-loaded n s w t q a h i j k = let l : a ≡ senderAfter LoadWord s w = rw h at k in rw h (rw (i, j, l))
-
--- a start was chosen with a place not yet begun
-pub choose-room : (s : Sending) (may : Bool) → Room (s .queue) (choose s may)
-unfolding choose
-choose-room s may =
-    pick-keeps (Room (s .queue)) _ _ _ (λ _. tt)
-    (λ _. pick-keeps (Room (s .queue)) _ _ _
-    (λ _. pick-keeps (Room (s .queue)) _ _ _ (λ _. tt) (λ _. tt))
-    (λ _. pick-keeps (Room (s .queue)) _ _ _ (λ _. tt)
-    (λ _. pick-keeps (Room (s .queue)) _ _ _
-    (λ _. pick-keeps (Room (s .queue)) _ _ _
-    (λ h. pick-keeps (Room (s .queue)) _ _ _ (λ _. ltb-true _ _ h) (λ _. ltb-true _ _ h))
-    (λ _. tt))
-    (λ _. tt))))
 
 -- what holds of a list's elements and of the one put in
 set-keeps : {A : Type 0} (P : A → Type 0) (l : List A) (i j : ℕ) (a d : A) → P a → P (getD l j d) → P (getD (set l i a) j d)

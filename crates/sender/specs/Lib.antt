@@ -1,2 +1,1 @@
 pub mod Sender
-pub mod Room

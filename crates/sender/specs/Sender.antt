@@ -1,14 +1,10 @@
 -- What a tick sends (01 The line). Assumes nothing.
-use mathlib.Core.Bool.{Bool, true, false, not, _&&_, _||_}
+use mathlib.Core.Bool.{Bool, true, false, _&&_, _||_}
 use Prim.Native.Nat.{ℕ, _+_, _-_}
 use lib.Dec.{ltb, leb, eqb}
 use Rattle.base.specs.Pick.{pick}
 use Rattle.crc16.specs.Crc.{crcWord}
-use Rattle.line.specs.Format.{pieceLength, pieceBit}
-use Rattle.line.specs.declared.Piece.{Piece}
 use Rattle.line.specs.declared.Piece.the-variants.{Pause, StartBit, WordPiece, EndPiece}
-use Rattle.registers.specs.Registers.{isNormal, blocking}
-use Rattle.registers.specs.declared.Control.{Control}
 use Rattle.state.specs.Rings.{txSize, popped}
 use Rattle.state.specs.Queue.{placeAt, withPlace, begunOne, underWay, returned}
 use Rattle.state.specs.Sending.{idle}
@@ -17,34 +13,10 @@ use Rattle.state.specs.declared.Queue.{Queue}
 use Rattle.state.specs.declared.Returned.{Returned}
 use Rattle.state.specs.declared.Sender.{Sender}
 use Rattle.state.specs.declared.Sending.{Sending}
-use Rattle.sender.specs.declared.Next.{Next}
-use Rattle.sender.specs.declared.Next.the-variants.{GoOn, LoadWord, Starve, LoadEnd, StartWords, StartEnds, Stay}
+use Rattle.next.specs.declared.Next.{Next}
+use Rattle.next.specs.declared.Next.the-variants.{GoOn, LoadWord, Starve, LoadEnd, StartWords, StartEnds, Stay}
 use Rattle.sender.specs.declared.Sent.{Sent}
-
--- "A tick that finds NORMAL, POR clear, no blocking flag": what the registers say of a start
-abbrev pub mayStart : Control → Bool
-mayStart c = isNormal (c .mode) && not (c .flags .por) && not (blocking (c .flags))
-
--- the piece under way goes on; then this command's words, and its ENDs; then, the sender idle, "the oldest place not yet begun"
-unfoldable pub choose : Sending → Bool → Next
-choose s may =
-    pick (ltb (s .sender .gone) (pieceLength (s .sender .piece))) GoOn
-    (pick (ltb 0 (s .sender .left))
-    (pick (ltb 0 (s .tx .count)) LoadWord Starve)
-    (pick (ltb 0 (s .sender .ends)) LoadEnd
-    (pick may
-    (pick (ltb (s .queue .begun) (s .queue .used)) (pick (ltb 0 (placeAt (s .queue) (s .queue .begun) .words)) StartWords StartEnds) Stay)
-    Stay)))
-
--- the bit that goes out; w is the oldest word of TX
-unfoldable pub bitSent : Next → Sender → ℕ → Bool
-bitSent GoOn s w = pieceBit (s .piece) (s .gone)
-bitSent LoadWord s w = pieceBit (WordPiece w) 0
-bitSent Starve s w = true
-bitSent LoadEnd s w = true
-bitSent StartWords s w = false
-bitSent StartEnds s w = true
-bitSent Stay s w = true
+use Rattle.next.specs.Next.{choose, bitSent, isStarve, isStart}
 
 -- "If the first sent word is 0xAA00 to 0xAA0F or 0xAAF0". VSYNC is 0xAAF0; the FC writes are the sixteen from 0xAA00. 001 7.3.4.6.2
 abbrev pub isHead : ℕ → Bool
@@ -120,24 +92,6 @@ finished s =
     pick (idle (s .sender) && underWay (s .queue))
     (returned (s .queue) (s .queue .begun - 1) (placeSent (placeAt (s .queue) (s .queue .begun - 1))))
     (record { queue = s .queue; differs = false })
-
-unfoldable pub isStarve : Next → Bool
-isStarve GoOn = false
-isStarve LoadWord = false
-isStarve Starve = true
-isStarve LoadEnd = false
-isStarve StartWords = false
-isStarve StartEnds = false
-isStarve Stay = false
-
-unfoldable pub isStart : Next → Bool
-isStart GoOn = false
-isStart LoadWord = false
-isStart Starve = false
-isStart LoadEnd = false
-isStart StartWords = true
-isStart StartEnds = false
-isStart Stay = false
 
 unfoldable pub sentBy : Next → Sending → ℕ → Sent
 sentBy n s w = record {

@@ -1,34 +1,19 @@
 // What a tick sends (01 The line): the choice first, then what it does.
 ghost use mathlib.Core.Path.{_≡_};
 ghost use Prim.Native.Nat.{_-_};
-ghost use lib.Dec.{ltb, eqb};
+ghost use lib.Dec.{eqb};
 ghost use Rattle.base.specs.Pick.{pick};
-ghost use Rattle.state.specs.Facts.{RingFit, QueueFit, SendFit};
-ghost use Rattle.state.specs.Rings.{txSize, popped as poppedOf};
-ghost use Rattle.state.specs.Queue.{placeAt, begunOne};
-ghost use Rattle.sender.specs.declared.Next.the-variants.{StartWords, StartEnds, Stay};
-ghost use Rattle.sender.specs.Room.{Room};
-ghost use Rattle.sender.specs.Sender.{choose as chooseOf, bitSent, isHead, wordSent, queueSent, senderAfter, advanced as advancedOf, placeSent, finished as finishedOf, isStarve, isStart, mayStart, tickSender};
+ghost use Rattle.state.specs.Facts.{QueueFit, SendFit};
+ghost use Rattle.state.specs.Queue.{begunOne};
+ghost use Rattle.next.specs.Room.{Room};
+ghost use Rattle.sender.specs.Sender.{isHead, wordSent, queueSent, senderAfter, advanced as advancedOf, placeSent, finished as finishedOf, tickSender};
 use line::Piece;
-use registers::Control;
+use next::Next;
 use state::Place;
 use state::Queue;
 use state::Returned;
-use state::Ring;
 use state::Sender;
 use state::Sending;
-
-// What a tick does: the next bit of the piece under way; a word, an END begun; no word in TX; a command begun, with words or of ENDs alone;
-// nothing.
-pub enum Next {
-    GoOn,
-    LoadWord,
-    Starve,
-    LoadEnd,
-    StartWords,
-    StartEnds,
-    Stay,
-}
 
 // `starved`: note 13. `started`: a start bit went out. `differs`: a place was freed with CRCs that differ.
 pub struct Sent {
@@ -37,71 +22,6 @@ pub struct Sent {
     pub starved: bool,
     pub started: bool,
     pub differs: bool,
-}
-
-fn less_one(n: u16) -> u16
-    ensures { λ r. ⌜ r ≡ n - 1 ⌝ }
-{
-    if 0 < n {
-        return n - 1;
-    }
-    0
-}
-
-// "the oldest place not yet begun", where there is one
-fn start(queue: Queue) -> Next
-    requires { ⌜ QueueFit queue ⌝ }
-    ensures { λ r. ⌜ r ≡ pick (ltb (queue .begun) (queue .used)) (pick (ltb 0 (placeAt queue (queue .begun) .words)) StartWords StartEnds) Stay ⌝ }
-{
-    if queue.begun < queue.used {
-        let place = queue.places[queue.begun as usize];
-        if 0 < place.words {
-            return Next::StartWords;
-        }
-        return Next::StartEnds;
-    }
-    Next::Stay
-}
-
-// What is under way goes first: its piece, then its words, then its ENDs.
-fn choose(sending: Sending, may: bool) -> Next
-    requires { ⌜ SendFit sending ⌝ }
-    ensures { λ r. ⌜ r ≡ chooseOf sending may ⌝ }
-{
-    let sender = sending.sender;
-    let queue = sending.queue;
-    let piece = sender.piece;
-    if sender.gone < line::piece_length(piece) {
-        return Next::GoOn;
-    }
-    if 0 < sender.left {
-        if 0 < sending.tx.count {
-            return Next::LoadWord;
-        }
-        return Next::Starve;
-    }
-    if 0 < sender.ends {
-        return Next::LoadEnd;
-    }
-    if may {
-        return start(queue);
-    }
-    Next::Stay
-}
-
-fn bit_sent(next: Next, sender: Sender, word: u16) -> bool
-    ensures { λ r. ⌜ r ≡ bitSent next sender word ⌝ }
-{
-    let piece = sender.piece;
-    match next {
-        Next::GoOn => line::piece_bit(piece, sender.gone),
-        Next::LoadWord => line::piece_bit(Piece::WordPiece(word), 0),
-        Next::Starve => true,
-        Next::LoadEnd => true,
-        Next::StartWords => false,
-        Next::StartEnds => true,
-        Next::Stay => true,
-    }
 }
 
 // VSYNC, and the sixteen FC writes.
@@ -177,16 +97,20 @@ fn sender_after(next: Next, sending: Sending, word: u16) -> Sender
             left: sender.left,
             ends: sender.ends,
         },
-        Next::LoadWord => first_bit(Piece::WordPiece(word), less_one(sender.left), sender.ends),
+        Next::LoadWord => first_bit(
+            Piece::WordPiece(word),
+            state::less_one(sender.left),
+            sender.ends,
+        ),
         Next::Starve => first_bit(Piece::EndPiece, 0, 0),
-        Next::LoadEnd => first_bit(Piece::EndPiece, 0, less_one(sender.ends)),
+        Next::LoadEnd => first_bit(Piece::EndPiece, 0, state::less_one(sender.ends)),
         Next::StartWords => {
             let place = queue.places[queue.begun as usize];
             first_bit(Piece::StartBit, place.words, place.ends + 1)
         }
         Next::StartEnds => {
             let place = queue.places[queue.begun as usize];
-            first_bit(Piece::EndPiece, 0, less_one(place.ends))
+            first_bit(Piece::EndPiece, 0, state::less_one(place.ends))
         }
         Next::Stay => Sender {
             piece: Piece::Pause,
@@ -194,19 +118,6 @@ fn sender_after(next: Next, sending: Sending, word: u16) -> Sender
             left: 0,
             ends: 0,
         },
-    }
-}
-
-// The oldest word is taken from TX.
-fn popped(tx: Ring) -> Ring
-    requires { ⌜ RingFit txSize tx ⌝ }
-    ensures { λ r. ⌜ r ≡ poppedOf txSize tx ⌝ }
-{
-    let head = (tx.head + 1) % 512;
-    let count = less_one(tx.count);
-    Ring {
-        head: head,
-        count: count,
     }
 }
 
@@ -255,7 +166,7 @@ fn advanced(next: Next, sending: Sending, word: u16) -> Sending
     match next {
         Next::GoOn => gone_on(sending, sender),
         Next::LoadWord => {
-            let tx = popped(sending.tx);
+            let tx = state::popped(sending.tx, 512);
             let queue = queue_sent(sending.queue, sending.sender.left, word);
             Sending {
                 tx: tx,
@@ -285,12 +196,12 @@ fn finished(sending: Sending) -> Returned
     ensures { λ r. ⌜ r ≡ finishedOf sending ⌝ }
 {
     let queue = sending.queue;
-    let idle = state::is_idle(sending.sender);
-    let under_way = state::is_under_way(queue);
+    let idle = deeds::is_idle(sending.sender);
+    let under_way = queue::is_under_way(queue);
     if idle & under_way {
-        let last = less_one(queue.begun);
+        let last = state::less_one(queue.begun);
         let place = place_sent(queue.places[last as usize]);
-        return state::give_back(queue, last, place);
+        return queue::give_back(queue, last, place);
     }
     Returned {
         queue: queue,
@@ -298,59 +209,20 @@ fn finished(sending: Sending) -> Returned
     }
 }
 
-fn is_starve(next: Next) -> bool
-    ensures { λ r. ⌜ r ≡ isStarve next ⌝ }
-{
-    match next {
-        Next::GoOn => false,
-        Next::LoadWord => false,
-        Next::Starve => true,
-        Next::LoadEnd => false,
-        Next::StartWords => false,
-        Next::StartEnds => false,
-        Next::Stay => false,
-    }
-}
-
-fn is_start(next: Next) -> bool
-    ensures { λ r. ⌜ r ≡ isStart next ⌝ }
-{
-    match next {
-        Next::GoOn => false,
-        Next::LoadWord => false,
-        Next::Starve => false,
-        Next::LoadEnd => false,
-        Next::StartWords => true,
-        Next::StartEnds => false,
-        Next::Stay => false,
-    }
-}
-
-// What the registers say of a start.
-pub fn may_start(control: Control) -> bool
-    ensures { λ r. ⌜ r ≡ mayStart control ⌝ }
-{
-    let mode = control.mode;
-    let normal = registers::is_normal(mode);
-    let por = control.flags.por;
-    let blocked = registers::blocking(control.flags);
-    normal & !por & !blocked
-}
-
 // A tick's sending half. `may` is `may_start` before the tick, `word` the oldest word of TX.
 pub fn tick_sender(sending: Sending, may: bool, word: u16) -> Sent
     requires { ⌜ SendFit sending ⌝ }
     ensures { λ r. ⌜ r ≡ tickSender sending may word ⌝ }
 {
-    let next = choose(sending, may);
+    let next = next::choose(sending, may);
     let after = advanced(next, sending, word);
     let back = finished(after);
     let tx = after.tx;
     let queue = back.queue;
     let sender = after.sender;
-    let sout = bit_sent(next, sending.sender, word);
-    let starved = is_starve(next);
-    let started = is_start(next);
+    let sout = next::bit_sent(next, sending.sender, word);
+    let starved = next::is_starve(next);
+    let started = next::is_start(next);
     Sent {
         sending: Sending {
             tx: tx,

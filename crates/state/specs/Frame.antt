@@ -12,7 +12,7 @@ use Rattle.state.specs.declared.Reply.{Reply}
 use Rattle.state.specs.declared.Reply.the-variants.{Status, Data, Registers, Check}
 
 -- the data words between the command word and the CRC word: "Reads and the reset carry no data words"
-unfoldable pub dataWords : Command → ℕ
+abbrev pub dataWords : Command → ℕ
 dataWords Filler = 0
 dataWords Malformed = 0
 dataWords (Forward crc words ends reads) = words
@@ -21,7 +21,7 @@ dataWords (RegisterWrite crc address count) = count
 dataWords (RegisterRead crc address count) = 0
 dataWords SoftReset = 0
 
-unfoldable pub isForward : Command → Bool
+abbrev pub isForward : Command → Bool
 isForward Filler = false
 isForward Malformed = false
 isForward (Forward crc words ends reads) = true

@@ -2,12 +2,13 @@
 use mathlib.Core.Bool.{Bool, true, false}
 use Prim.Native.Nat.{ℕ}
 use lib.ListN.{replicate}
+use Rattle.command.specs.Layout.{registersEnd}
 use Rattle.line.specs.declared.Piece.the-variants.{Pause}
 use Rattle.line.specs.declared.Ear.the-variants.{Quiet}
 use Rattle.registers.specs.Registers.{powerUpControl}
 use Rattle.registers.specs.declared.Mode.the-variants.{Init}
 use Rattle.registers.specs.declared.Control.{Control}
-use Rattle.state.specs.Queue.{noPlace}
+use Rattle.state.specs.Queue.{places, noPlace}
 use Rattle.state.specs.declared.Ring.{Ring}
 use Rattle.state.specs.declared.Phase.the-variants.{Idle}
 use Rattle.state.specs.declared.Bridge.{Bridge}
@@ -21,11 +22,11 @@ poweredUp c = record {
   control = c;
   sending = record {
     tx = newRing;
-    queue = record { places = replicate 8 noPlace; used = 0; begun = 0 };
+    queue = record { places = replicate places noPlace; used = 0; begun = 0 };
     sender = record { piece = Pause; gone = 0; left = 0; ends = 0 };
   };
   receiving = record { rx = newRing; reader = record { ear = Quiet; belongs = false; storing = false; stored = false } };
-  frame = record { phase = Idle; held = replicate 11 0 };
+  frame = record { phase = Idle; held = replicate registersEnd 0 };
   clock = record { reading = 0; mark = 0; watching = false; «watch_mark» = 0; sin = true };
 }
 

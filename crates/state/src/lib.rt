@@ -1,25 +1,19 @@
 // The bridge's record (01 What the bridge is), in sub-records by the rule that changes them. Counts are narrow: the whole is below 256 bytes.
 ghost use mathlib.Core.Path.{_≡_};
+ghost use lib.Dec.{ltb};
 ghost use Rattle.state.specs.Frame.{dataWords, isForward};
 ghost use Rattle.state.specs.Notes.{noteNumber};
 ghost use Rattle.state.specs.Power.{powerUp, powerUpBad};
 
-mod deeds;
-mod places;
+mod rings;
 
 use command::Command;
-pub use deeds::done;
-pub use deeds::is_idle;
-pub use deeds::stored;
 use line::Ear;
 use line::Piece;
-pub use places::claimed;
-pub use places::give_back;
-pub use places::is_under_way;
-pub use places::new_place;
-pub use places::place_at;
 use registers::Control;
 use registers::Mode;
+pub use rings::less_one;
+pub use rings::popped;
 
 // A lent store as a ring: the oldest word's cell, and how many words it holds.
 pub struct Ring {
@@ -294,6 +288,13 @@ pub fn data_words(command: Command) -> u16
         } => 0,
         Command::SoftReset => 0,
     }
+}
+
+// Data words are still to come.
+pub fn is_due(command: Command, got: u16) -> bool
+    ensures { λ r. ⌜ r ≡ ltb got (dataWords command) ⌝ }
+{
+    got < data_words(command)
 }
 
 pub fn is_forward(command: Command) -> bool

@@ -41,15 +41,5 @@ returns-2 c = search needs
 pub play-all-spec : {M : Type 1} → statement M
 play-all-spec =
     tie.close
-    (tie.spec
-    Inv-loop
-    μ-loop
-    loop-holds
-    slice-aggregate-play-some
-    slice-aggregate-play-some-2
-    play-some-requires
-    returns
-    sub-turns
-    loop-less
-    loop-again
-    returns-2)
+    (tie.spec Inv-loop μ-loop loop-holds slice-aggregate-play-some slice-aggregate-play-some-2 play-some-requires returns sub-turns
+    loop-less loop-again returns-2)

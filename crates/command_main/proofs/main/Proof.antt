@@ -58,21 +58,6 @@ returns c = search needs
 pub main-spec : {M : Type 1} → statement M
 main-spec =
     tie.close
-    (tie.spec
-    Inv-loop
-    μ-loop
-    loop-holds
-    decode-requires
-    place-requires
-    mul-wrapping-add-u32
-    array-read-wrapping-add-u32
-    wrapping-add-u32-requires
-    mul-counts
-    array-write-counts
-    mix-command-requires
-    close-number-requires
-    add-word
-    loop-less
-    loop-again
-    print-counts-requires
-    returns)
+    (tie.spec Inv-loop μ-loop loop-holds decode-requires place-requires mul-wrapping-add-u32 array-read-wrapping-add-u32
+    wrapping-add-u32-requires mul-counts array-write-counts mix-command-requires close-number-requires add-word loop-less loop-again
+    print-counts-requires returns)

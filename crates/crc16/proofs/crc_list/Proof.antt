@@ -39,14 +39,4 @@ returns c = search (needs, last)
 pub crc-list-spec : {M : Type 1} → statement M
 crc-list-spec =
     tie.close
-    (tie.spec
-    Inv-loop
-    μ-loop
-    loop-holds
-    mul-crc-word
-    shared-slice-read-crc-word
-    crc-word-requires
-    add-i
-    loop-less
-    loop-again
-    returns)
+    (tie.spec Inv-loop μ-loop loop-holds mul-crc-word shared-slice-read-crc-word crc-word-requires add-i loop-less loop-again returns)

@@ -7,15 +7,6 @@ use Rattle.crc16.proofs.Steps.{step-at}
 use Rattle.crc16.proofs.entry.Statement.{statement}
 use Rattle.crc16.proofs.entry.Tie as tie
 
-mul-result : tie.Need-mul-result
-mul-result c = search needs
-
-array-read-result : tie.Need-array-read-result
-array-read-result c = search needs
-
-returns : tie.Need-returns
-unfolding pick shift shifts
-returns c = let h : c .args .k < 256 = search needs in rw step-at
-
 pub entry-spec : {M : Type 1} → statement M
-entry-spec = tie.close (tie.spec mul-result array-read-result returns)
+unfolding pick shift shifts
+entry-spec = tie.close (tie.spec (λ c. search needs) (λ c. search needs) (λ c. let h : c .args .k < 256 = search needs in rw step-at))

@@ -43,16 +43,5 @@ returns c = search needs
 pub block-spec : {M : Type 1} → statement M
 block-spec =
     tie.close
-    (tie.spec
-    Inv-loop
-    μ-loop
-    loop-holds
-    mul-t7
-    add-t8
-    slice-aggregate-crc-list
-    crc-list-requires
-    fed-crc-requires
-    add-low
-    loop-less
-    loop-again
-    returns)
+    (tie.spec Inv-loop μ-loop loop-holds mul-t7 add-t8 slice-aggregate-crc-list crc-list-requires fed-crc-requires add-low loop-less
+    loop-again returns)

@@ -64,23 +64,5 @@ returns c = search needs
 pub main-spec : {M : Type 1} → statement M
 main-spec =
     tie.close
-    (tie.spec
-    Inv-loop
-    μ-loop
-    Inv-loop2
-    μ-loop2
-    loop-holds
-    block-requires
-    cast-line
-    line-requires
-    add-high
-    loop-less
-    loop-again
-    loop2-holds
-    list-requires
-    cast-line-2
-    line-requires-2
-    add-n
-    loop2-less
-    loop2-again
-    returns)
+    (tie.spec Inv-loop μ-loop Inv-loop2 μ-loop2 loop-holds block-requires cast-line line-requires add-high loop-less loop-again
+    loop2-holds list-requires cast-line-2 line-requires-2 add-n loop2-less loop2-again returns)

@@ -68,22 +68,5 @@ returns-3 c = search (needs, to-budget)
 pub run-spec : {M : Type 1} → statement M
 run-spec =
     tie.close
-    (tie.spec
-    Inv-loop
-    μ-loop
-    loop-holds
-    at-rest-requires
-    same-length
-    same-length-2
-    returns
-    turn-requires
-    add-ticks
-    number-requires
-    same-length-3
-    same-length-4
-    returns-2
-    loop-less
-    loop-again
-    same-length-5
-    same-length-6
-    returns-3)
+    (tie.spec Inv-loop μ-loop loop-holds at-rest-requires same-length same-length-2 returns turn-requires add-ticks number-requires
+    same-length-3 same-length-4 returns-2 loop-less loop-again same-length-5 same-length-6 returns-3)

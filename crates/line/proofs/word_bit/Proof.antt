@@ -6,19 +6,8 @@ use Rattle.line.proofs.Laws.{is-check}
 use Rattle.line.proofs.word_bit.Statement.{statement}
 use Rattle.line.proofs.word_bit.Tie as tie
 
-sub-result : tie.Need-sub-result
-sub-result c = search needs
-
-shr-result : tie.Need-shr-result
-shr-result c = search needs
-
-returns : tie.Need-returns
-unfolding wordBit odd bit
-returns c = search (needs, picks)
-
-returns-2 : tie.Need-returns-2
-unfolding wordBit odd bit
-returns-2 c = search (needs, picks, is-check)
-
 pub word-bit-spec : {M : Type 1} → statement M
-word-bit-spec = tie.close (tie.spec sub-result shr-result returns returns-2)
+unfolding wordBit odd bit
+word-bit-spec =
+    tie.close
+    (tie.spec (λ c. search needs) (λ c. search needs) (λ c. search (needs, picks)) (λ c. search (needs, picks, is-check)))

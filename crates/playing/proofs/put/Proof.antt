@@ -46,16 +46,5 @@ returns c = search (needs, put-ends)
 pub put-spec : {M : Type 1} → statement M
 put-spec =
     tie.close
-    (tie.spec
-    Inv-loop
-    μ-loop
-    loop-holds
-    element-copy-out-out
-    add-out
-    slice-write-out
-    add-i
-    loop-less
-    loop-again
-    add-result
-    same-length
+    (tie.spec Inv-loop μ-loop loop-holds element-copy-out-out add-out slice-write-out add-i loop-less loop-again add-result same-length
     returns)

@@ -129,32 +129,6 @@ returns-3 c = search (needs, to-end)
 pub run-spec : {M : Type 1} → statement M
 run-spec =
     tie.close
-    (tie.spec
-    Inv-loop
-    μ-loop
-    loop-holds
-    add-loop
-    add-next
-    add-value
-    shared-slice-read-value
-    add-value-2
-    shared-slice-read-value-2
-    value-requires
-    shared-slice-read-one
-    one-requires
-    loop-less
-    loop-again
-    same-length
-    same-length-2
-    same-length-3
-    returns
-    stop-requires
-    same-length-4
-    same-length-5
-    same-length-6
-    returns-2
-    made-requires
-    same-length-7
-    same-length-8
-    same-length-9
-    returns-3)
+    (tie.spec Inv-loop μ-loop loop-holds add-loop add-next add-value shared-slice-read-value add-value-2 shared-slice-read-value-2
+    value-requires shared-slice-read-one one-requires loop-less loop-again same-length same-length-2 same-length-3 returns stop-requires
+    same-length-4 same-length-5 same-length-6 returns-2 made-requires same-length-7 same-length-8 same-length-9 returns-3)

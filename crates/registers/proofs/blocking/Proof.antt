@@ -3,9 +3,6 @@ use Rattle.registers.specs.Registers.{blocking}
 use Rattle.registers.proofs.blocking.Statement.{statement}
 use Rattle.registers.proofs.blocking.Tie as tie
 
-returns : tie.Need-returns
-unfolding blocking
-returns c = search needs
-
 pub blocking-spec : {M : Type 1} → statement M
-blocking-spec = tie.close (tie.spec returns)
+unfolding blocking
+blocking-spec = tie.close (tie.spec (λ c. search needs))

@@ -3,9 +3,6 @@ use Rattle.registers.specs.Registers.{powerUpControl, powerUpFlags, rese
 use Rattle.registers.proofs.power_up_control.Statement.{statement}
 use Rattle.registers.proofs.power_up_control.Tie as tie
 
-returns : tie.Need-returns
-unfolding powerUpControl powerUpFlags resetRegs table
-returns c = search needs
-
 pub power-up-control-spec : {M : Type 1} → statement M
-power-up-control-spec = tie.close (tie.spec returns)
+unfolding powerUpControl powerUpFlags resetRegs table
+power-up-control-spec = tie.close (tie.spec (λ c. search needs))

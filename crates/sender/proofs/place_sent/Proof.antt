@@ -3,9 +3,6 @@ use Rattle.sender.specs.Sender.{placeSent}
 use Rattle.sender.proofs.place_sent.Statement.{statement}
 use Rattle.sender.proofs.place_sent.Tie as tie
 
-returns : tie.Need-returns
-unfolding placeSent
-returns c = search needs
-
 pub place-sent-spec : {M : Type 1} → statement M
-place-sent-spec = tie.close (tie.spec returns)
+unfolding placeSent
+place-sent-spec = tie.close (tie.spec (λ c. search needs))

@@ -47,17 +47,5 @@ returns-3 c = search needs
 pub number-spec : {M : Type 1} → statement M
 number-spec =
     tie.close
-    (tie.spec
-    Inv-loop
-    μ-loop
-    loop-holds
-    shared-slice-read-digit
-    digit-requires
-    returns
-    returns-2
-    mul-n
-    add-n
-    add-i
-    loop-less
-    loop-again
+    (tie.spec Inv-loop μ-loop loop-holds shared-slice-read-digit digit-requires returns returns-2 mul-n add-n add-i loop-less loop-again
     returns-3)

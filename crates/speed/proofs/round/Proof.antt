@@ -60,21 +60,5 @@ returns c = search needs
 pub round-spec : {M : Type 1} → statement M
 round-spec =
     tie.close
-    (tie.spec
-    Inv-loop
-    μ-loop
-    loop-holds
-    add-loop
-    add-next
-    add-value
-    shared-slice-read-value
-    add-value-2
-    shared-slice-read-value-2
-    value-requires
-    shared-slice-read-one
-    one-requires
-    loop-less
-    loop-again
-    same-length
-    same-length-2
-    returns)
+    (tie.spec Inv-loop μ-loop loop-holds add-loop add-next add-value shared-slice-read-value add-value-2 shared-slice-read-value-2
+    value-requires shared-slice-read-one one-requires loop-less loop-again same-length same-length-2 returns)

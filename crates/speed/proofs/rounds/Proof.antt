@@ -41,15 +41,5 @@ returns c = search needs
 pub rounds-spec : {M : Type 1} → statement M
 rounds-spec =
     tie.close
-    (tie.spec
-    Inv-loop
-    μ-loop
-    good-requires
-    loop-holds
-    slice-aggregate-whole
-    slice-aggregate-whole-2
-    whole-requires
-    sub-left
-    loop-less
-    loop-again
-    returns)
+    (tie.spec Inv-loop μ-loop good-requires loop-holds slice-aggregate-whole slice-aggregate-whole-2 whole-requires sub-left loop-less
+    loop-again returns)

@@ -6,9 +6,6 @@ use mathlib.Core.Path.{refl}
 use Rattle.state.proofs.Bridge.bad.Statement.{statement}
 use Rattle.state.proofs.Bridge.bad.Tie as tie
 
-returns : tie.Need-returns
-unfolding powerUpBad badControl powerUpControl powerUpFlags resetRegs table noPlace
-returns c = refl
-
 pub bad-spec : {M : Type 1} → statement M
-bad-spec = tie.close (tie.spec returns)
+unfolding powerUpBad badControl powerUpControl powerUpFlags resetRegs table noPlace
+bad-spec = tie.close (tie.spec (λ c. refl))

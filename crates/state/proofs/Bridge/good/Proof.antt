@@ -6,9 +6,6 @@ use mathlib.Core.Path.{refl}
 use Rattle.state.proofs.Bridge.good.Statement.{statement}
 use Rattle.state.proofs.Bridge.good.Tie as tie
 
-returns : tie.Need-returns
-unfolding powerUp powerUpControl powerUpFlags resetRegs table noPlace
-returns c = refl
-
 pub good-spec : {M : Type 1} → statement M
-good-spec = tie.close (tie.spec returns)
+unfolding powerUp powerUpControl powerUpFlags resetRegs table noPlace
+good-spec = tie.close (tie.spec (λ c. refl))

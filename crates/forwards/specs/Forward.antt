@@ -1,0 +1,121 @@
+-- Forwards (01 Frames, "Forwards store data words as they come"; notes 5, 8 and 9, which are one guard). Assumes nothing.
+use mathlib.Core.Bool.{Bool, true, false, not, _&&_, _||_}
+use Prim.Native.Nat.{ℕ, _+_}
+use lib.Dec.{ltb, leb, eqb}
+use Rattle.base.specs.Pick.{pick}
+use Rattle.command.specs.declared.Command.{Command}
+use Rattle.registers.specs.Raising.{raisedIn}
+use Rattle.registers.specs.declared.Control.{Control}
+use Rattle.registers.specs.declared.Flag.the-variants.{QueueOvf, TxOvf}
+use Rattle.state.specs.Rings.{txSize}
+use Rattle.state.specs.Queue.{places, newPlace}
+use Rattle.state.specs.declared.Bridge.{Bridge}
+use Rattle.state.specs.declared.Deed.{Deed}
+use Rattle.state.specs.declared.Deed.the-variants.{Leave, Enqueue, TakeBack, ClearAll, ResetAll}
+use Rattle.state.specs.declared.Note.{Note}
+use Rattle.state.specs.declared.Note.the-variants.{Done, WrongStores, BrokenRecord, MalformedWord, Discarded, Blocked, CrcRefused, CrcWrong, TxFull, QueueFull, LineBusy, ResetRefused, CutShort, TxEmpty, RxFull, RxEmpty}
+use Rattle.state.specs.declared.Phase.{Phase}
+use Rattle.state.specs.declared.Phase.the-variants.{Collecting}
+use Rattle.state.specs.declared.Place.{Place}
+use Rattle.state.specs.declared.Store.{Store}
+use Rattle.state.specs.declared.Store.the-variants.{Keep, Put}
+use Rattle.plan.specs.Plan.{noAnswer}
+use Rattle.plan.specs.declared.Plan.{Plan}
+use Rattle.plan.specs.declared.Receive.the-variants.{LeaveRx}
+use Rattle.forwards.specs.declared.Wish.{Wish}
+use Rattle.forwards.specs.declared.Granted.{Granted}
+
+abbrev pub wish : Store → Bool → Place → Wish
+wish st release p = record { store = st; release = release; place = p }
+
+abbrev pub granted : Store → Deed → Note → Granted
+granted st d n = record { store = st; deed = d; note = n }
+
+unfoldable pub asksStore : Store → Bool
+asksStore Keep = false
+asksStore (Put w) = true
+
+-- Notes 5, 8 and 9: a blocked forward's word or release is dropped; a word with TX full, or a release with 8 places used, is a transmit
+-- clear, and "a data word that releases is stored first". `count` words are in TX, `used` places in use.
+unfoldable pub guard : Bool → ℕ → ℕ → Wish → Granted
+guard blocked count used w =
+    pick (blocked && (asksStore (w .store) || w .release)) (granted Keep Leave Blocked)
+    (pick (asksStore (w .store) && leb txSize count) (granted Keep ClearAll TxFull)
+    (pick (w .release)
+    (pick (leb places used) (granted (w .store) ClearAll QueueFull) (granted (w .store) (Enqueue (w .place)) Done))
+    (granted (w .store) Leave Done)))
+
+-- the flag that a refusal raises
+unfoldable pub faulted : Control → Note → Control
+faulted c Done = c
+faulted c WrongStores = c
+faulted c BrokenRecord = c
+faulted c MalformedWord = c
+faulted c Discarded = c
+faulted c Blocked = c
+faulted c CrcRefused = c
+faulted c CrcWrong = c
+faulted c TxFull = raisedIn c TxOvf
+faulted c QueueFull = raisedIn c QueueOvf
+faulted c LineBusy = c
+faulted c ResetRefused = c
+faulted c CutShort = c
+faulted c TxEmpty = c
+faulted c RxFull = c
+faulted c RxEmpty = c
+
+-- the frame's unreleased words in TX
+unfoldable pub mineAfter : Deed → Store → ℕ → Bool → ℕ
+mineAfter Leave st mine released = pick (asksStore st && not released) (mine + 1) mine
+mineAfter (Enqueue p) st mine released = 0
+mineAfter (TakeBack n) st mine released = 0
+mineAfter ClearAll st mine released = 0
+mineAfter ResetAll st mine released = 0
+
+unfoldable pub enqueues : Deed → Bool
+enqueues Leave = false
+enqueues (Enqueue p) = true
+enqueues (TakeBack n) = false
+enqueues ClearAll = false
+enqueues ResetAll = false
+
+-- "a forward still being received is blocked"
+unfoldable pub clears : Deed → Bool
+clears Leave = false
+clears (Enqueue p) = false
+clears (TakeBack n) = false
+clears ClearAll = true
+clears ResetAll = true
+
+-- a forward that goes on collecting, after what was granted of its word
+unfoldable pub forwarded : Bridge → Command → ℕ → ℕ → ℕ → Bool → Bool → Granted → Plan
+forwarded b command got crc mine released blocked g = record {
+  phase =
+      Collecting command got crc (mineAfter (g .deed) (g .store) mine released) (enqueues (g .deed) || released) (clears (g .deed) || blocked);
+  held = b .frame .held;
+  control = faulted (b .control) (g .note);
+  store = g .store;
+  deed = g .deed;
+  receive = LeaveRx;
+  note = g .note;
+  sdo = noAnswer;
+  status = false;
+}
+
+-- "Release: .. when TX holds at least TXFFLVL + 1 words just after one of this frame's is stored, or when all data words have come"; once a frame
+abbrev pub releases : Bool → ℕ → ℕ → Bool → ℕ → ℕ → Bool
+releases crc words got released level count = not crc && not released && (leb (level + 1) count || eqb got words)
+
+-- a data word: the got-th, with which TX would hold one word more
+unfoldable pub forwardWord : Bridge → Command → Bool → ℕ → ℕ → Bool → ℕ → ℕ → ℕ → Bool → Bool → ℕ → Plan
+forwardWord b command crc words ends reads got sum mine released blocked w =
+    forwarded b command got sum mine released blocked
+    (guard blocked (b .sending .tx .count) (b .sending .queue .used)
+    (wish (Put w) (releases crc words got released (b .control .regs .txfflvl) (b .sending .tx .count + 1)) (newPlace words ends reads)))
+
+-- the command word: released at once where there are no data words and it is not named _CRC. "A command of no words and no ENDs queues nothing"
+unfoldable pub forwardBegun : Bridge → Command → Bool → ℕ → ℕ → Bool → ℕ → Bool → Plan
+forwardBegun b command crc words ends reads sum blocked =
+    forwarded b command 0 sum 0 false blocked
+    (guard blocked (b .sending .tx .count) (b .sending .queue .used)
+    (wish Keep (not crc && eqb words 0 && ltb 0 ends) (newPlace words ends reads)))

@@ -1,0 +1,61 @@
+-- The record rules of the sender and of the reader (01 Notes, note 2). docs/RECORD-RULES.md says what each is for. Assumes nothing.
+use mathlib.Core.Bool.{Bool, true, not, _&&_, _||_}
+use Prim.Native.Nat.{ℕ, _+_, _-_}
+use lib.Dec.{ltb, leb, eqb}
+use Rattle.base.specs.Pick.{pick}
+use Rattle.line.specs.Format.{groupLength, endLength}
+use Rattle.line.specs.declared.Ear.{Ear}
+use Rattle.line.specs.declared.Ear.the-variants.{Quiet, Group, Lost}
+use Rattle.line.specs.declared.Piece.{Piece}
+use Rattle.line.specs.declared.Piece.the-variants.{Pause, StartBit, WordPiece, EndPiece}
+use Rattle.registers.specs.Registers.{rxff}
+use Rattle.registers.specs.declared.Flags.{Flags}
+use Rattle.state.specs.Queue.{placeAt, underWay}
+use Rattle.state.specs.Sending.{idle}
+use Rattle.state.specs.declared.Place.{Place}
+use Rattle.state.specs.declared.Queue.{Queue}
+use Rattle.state.specs.declared.Reader.{Reader}
+use Rattle.state.specs.declared.Sender.{Sender}
+
+-- The sender: its piece, and what is left of the command whose place is under way (`busy`), of so many words and extra ENDs. A piece begins
+-- with its first bit gone. Nothing is left with no place under way, but for an END that a transmit clear owes.
+unfoldable pub pieceSound : Piece → ℕ → ℕ → ℕ → Bool → ℕ → ℕ → Bool
+pieceSound Pause gone left ends busy words extra = eqb gone 0 && eqb left 0 && leb ends 1 && not busy
+pieceSound StartBit gone left ends busy words extra = eqb gone 1 && eqb left words && ltb 0 words && eqb ends (extra + 1) && busy
+pieceSound (WordPiece w) gone left ends busy words extra =
+    ltb 0 gone && leb gone groupLength && ltb left words && eqb ends (extra + 1) && busy
+pieceSound EndPiece gone left ends busy words extra =
+    ltb 0 gone && leb gone endLength && eqb left 0 && leb ends (pick busy extra 0)
+
+-- the youngest place that has begun
+abbrev pub lastBegun : Queue → Place
+lastBegun q = placeAt q (q .begun - 1)
+
+-- "A command with extra ENDs is sent with the last bit of the last extra END": an idle sender has no place under way
+abbrev pub senderSound : Sender → Queue → Bool
+senderSound s q =
+    pieceSound (s .piece) (s .gone) (s .left) (s .ends) (underWay q) (lastBegun q .words) (lastBegun q .ends)
+    && not (idle s && underWay q)
+
+unfoldable pub earSound : Ear → Bool
+earSound Quiet = true
+earSound (Group value bits ones) = leb bits groupLength && ltb ones endLength
+earSound (Lost ones) = ltb ones endLength
+
+-- the oldest place has begun, has words and is not yet read: the command being read can belong to it
+abbrev pub isUnread : Queue → Bool
+isUnread q = ltb 0 (q .begun) && ltb 0 (placeAt q 0 .words) && not (placeAt q 0 .read)
+
+abbrev pub heardMarks : Reader → Queue → Flags → Bool
+heardMarks r q f =
+    (not (r .belongs) || isUnread q) && (not (r .storing) || (r .belongs && placeAt q 0 .store && not (rxff f)))
+
+-- Marks of a command being read, and of none: it belongs to the oldest place; its words go to RX where that place's do, "unless an RX flag was
+-- up at the command's start or rises in it".
+unfoldable pub marksSound : Ear → Reader → Queue → Flags → Bool
+marksSound Quiet r q f = not (r .belongs) && not (r .storing) && not (r .stored)
+marksSound (Group value bits ones) r q f = heardMarks r q f
+marksSound (Lost ones) r q f = heardMarks r q f
+
+abbrev pub readerSound : Reader → Queue → Flags → Bool
+readerSound r q f = earSound (r .ear) && marksSound (r .ear) r q f

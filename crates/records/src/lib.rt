@@ -1,0 +1,505 @@
+// A record as numbers, in the order of the table's columns: made of them, and compared with them. A variant is its number in the order of its
+// type, and a bool is 0 or 1: `is` of `built` tells numbers that are no record's.
+use command::Command;
+use line::Ear;
+use line::Piece;
+use registers::Control;
+use registers::Flags;
+use registers::Mode;
+use registers::Regs;
+use state::Bridge;
+use state::Clock;
+use state::Frame;
+use state::Phase;
+use state::Place;
+use state::Queue;
+use state::Reader;
+use state::Receiving;
+use state::Reply;
+use state::Ring;
+use state::Sender;
+use state::Sending;
+ghost use Prim.Native.Nat.{_≤_};
+
+pub const COLUMNS: usize = 141;
+
+pub type Fields = [u16; COLUMNS];
+
+// A variant's number, and what the variants of its type hold: seven columns.
+struct Parts {
+    kind: u16,
+    a: u16,
+    b: u16,
+    c: u16,
+    d: u16,
+    x: bool,
+    y: bool,
+}
+
+pub fn at(f: &Fields, column: usize) -> u16 {
+    if column < COLUMNS {
+        return f[column];
+    }
+    0
+}
+
+fn on(f: &Fields, column: usize) -> bool {
+    at(f, column) == 1
+}
+
+fn held_at(f: &Fields, from: usize) -> Parts
+    requires { ⌜ from ≤ 100 ⌝ }
+{
+    Parts {
+        kind: at(f, from),
+        a: at(f, from + 1),
+        b: at(f, from + 2),
+        c: at(f, from + 3),
+        d: at(f, from + 4),
+        x: on(f, from + 5),
+        y: on(f, from + 6),
+    }
+}
+
+fn mode(number: u16) -> Mode {
+    match number {
+        0 => Mode::Normal,
+        1 => Mode::Init,
+        _ => Mode::Failsafe,
+    }
+}
+
+fn control(f: &Fields) -> Control {
+    Control {
+        mode: mode(at(f, 0)),
+        drdy: on(f, 6),
+        flags: flags(f),
+        regs: Regs {
+            spictrl: at(f, 1),
+            ccsictrl: at(f, 2),
+            txfflvl: at(f, 3),
+            rxfflvl: at(f, 4),
+            diagmask: at(f, 5),
+        },
+    }
+}
+
+fn flags(f: &Fields) -> Flags {
+    Flags {
+        otp: on(f, 7),
+        por: on(f, 8),
+        srst: on(f, 9),
+        reg_write: on(f, 10),
+        spi_crc: on(f, 11),
+        spi_cs: on(f, 12),
+        queue_ovf: on(f, 13),
+        check_bit: on(f, 14),
+        line_crc: on(f, 15),
+        sin: on(f, 16),
+        txffovf: on(f, 17),
+        txffuvf: on(f, 18),
+        rxffovf: on(f, 19),
+        rxffuvf: on(f, 20),
+    }
+}
+
+fn piece(p: Parts) -> Piece {
+    let kind = p.kind;
+    match kind {
+        0 => Piece::Pause,
+        1 => Piece::StartBit,
+        2 => Piece::WordPiece(p.a),
+        _ => Piece::EndPiece,
+    }
+}
+
+fn ear(p: Parts) -> Ear {
+    let kind = p.kind;
+    match kind {
+        0 => Ear::Quiet,
+        1 => Ear::Group {
+            value: p.a,
+            bits: p.b,
+            ones: p.c,
+        },
+        _ => Ear::Lost { ones: p.c },
+    }
+}
+
+fn command(p: Parts) -> Command {
+    let kind = p.kind;
+    match kind {
+        0 => Command::Filler,
+        1 => Command::Malformed,
+        2 => Command::Forward {
+            crc: p.x,
+            words: p.a,
+            ends: p.b,
+            reads: p.y,
+        },
+        3 => Command::DataRead {
+            crc: p.x,
+            words: p.a,
+        },
+        4 => Command::RegisterWrite {
+            crc: p.x,
+            address: p.c,
+            count: p.d,
+        },
+        5 => Command::RegisterRead {
+            crc: p.x,
+            address: p.c,
+            count: p.d,
+        },
+        _ => Command::SoftReset,
+    }
+}
+
+fn reply(p: Parts) -> Reply {
+    let kind = p.kind;
+    match kind {
+        0 => Reply::Status(p.a),
+        1 => Reply::Data(p.d),
+        2 => Reply::Registers {
+            address: p.c,
+            left: p.d,
+        },
+        _ => Reply::Check,
+    }
+}
+
+fn phase(p: Parts, open: Parts) -> Phase {
+    let kind = p.kind;
+    match kind {
+        0 => Phase::Idle,
+        1 => Phase::Collecting {
+            command: command(open),
+            got: p.a,
+            crc: p.b,
+            mine: p.c,
+            released: p.x,
+            blocked: p.y,
+        },
+        2 => Phase::Answering {
+            reply: reply(open),
+            crc: p.b,
+        },
+        _ => Phase::Discarding,
+    }
+}
+
+fn place(f: &Fields, from: usize) -> Place
+    requires { ⌜ from ≤ 130 ⌝ }
+{
+    Place {
+        words: at(f, from),
+        ends: at(f, from + 1),
+        store: on(f, from + 4),
+        compare: on(f, from + 5),
+        damaged: on(f, from + 6),
+        sent: on(f, from + 7),
+        read: on(f, from + 8),
+        crc_sent: at(f, from + 2),
+        crc_read: at(f, from + 3),
+    }
+}
+
+fn queue(f: &Fields) -> Queue {
+    Queue {
+        places: [
+            place(f, 67),
+            place(f, 76),
+            place(f, 85),
+            place(f, 94),
+            place(f, 103),
+            place(f, 112),
+            place(f, 121),
+            place(f, 130),
+        ],
+        used: at(f, 25),
+        begun: at(f, 26),
+    }
+}
+
+fn sending(f: &Fields) -> Sending {
+    Sending {
+        tx: Ring {
+            head: at(f, 21),
+            count: at(f, 22),
+        },
+        queue: queue(f),
+        sender: Sender {
+            piece: piece(held_at(f, 39)),
+            gone: at(f, 27),
+            left: at(f, 28),
+            ends: at(f, 29),
+        },
+    }
+}
+
+fn receiving(f: &Fields) -> Receiving {
+    Receiving {
+        rx: Ring {
+            head: at(f, 23),
+            count: at(f, 24),
+        },
+        reader: Reader {
+            ear: ear(held_at(f, 46)),
+            belongs: on(f, 35),
+            storing: on(f, 36),
+            stored: on(f, 37),
+        },
+    }
+}
+
+pub fn built(f: &Fields) -> Bridge {
+    Bridge {
+        control: control(f),
+        sending: sending(f),
+        receiving: receiving(f),
+        frame: Frame {
+            phase: phase(held_at(f, 53), held_at(f, 60)),
+            held: [at(f, 38); 11],
+        },
+        clock: Clock {
+            reading: at(f, 30),
+            mark: at(f, 31),
+            watching: on(f, 33),
+            watch_mark: at(f, 32),
+            sin: on(f, 34),
+        },
+    }
+}
+
+fn held(kind: u16, a: u16, b: u16, c: u16, d: u16, x: bool, y: bool) -> Parts {
+    Parts {
+        kind: kind,
+        a: a,
+        b: b,
+        c: c,
+        d: d,
+        x: x,
+        y: y,
+    }
+}
+
+fn bare(kind: u16) -> Parts {
+    held(kind, 0, 0, 0, 0, false, false)
+}
+
+fn of_mode(mode: Mode) -> u16 {
+    match mode {
+        Mode::Normal => 0,
+        Mode::Init => 1,
+        Mode::Failsafe => 2,
+    }
+}
+
+fn of_piece(piece: Piece) -> Parts {
+    match piece {
+        Piece::Pause => bare(0),
+        Piece::StartBit => bare(1),
+        Piece::WordPiece(word) => held(2, word, 0, 0, 0, false, false),
+        Piece::EndPiece => bare(3),
+    }
+}
+
+fn of_ear(ear: Ear) -> Parts {
+    match ear {
+        Ear::Quiet => bare(0),
+        Ear::Group { value, bits, ones } => held(1, value, bits, ones, 0, false, false),
+        Ear::Lost { ones } => held(2, 0, 0, ones, 0, false, false),
+    }
+}
+
+fn of_command(command: Command) -> Parts {
+    match command {
+        Command::Filler => bare(0),
+        Command::Malformed => bare(1),
+        Command::Forward {
+            crc,
+            words,
+            ends,
+            reads,
+        } => held(2, words, ends, 0, 0, crc, reads),
+        Command::DataRead { crc, words } => held(3, words, 0, 0, 0, crc, false),
+        Command::RegisterWrite {
+            crc,
+            address,
+            count,
+        } => held(4, 0, 0, address, count, crc, false),
+        Command::RegisterRead {
+            crc,
+            address,
+            count,
+        } => held(5, 0, 0, address, count, crc, false),
+        Command::SoftReset => bare(6),
+    }
+}
+
+fn of_reply(reply: Reply) -> Parts {
+    match reply {
+        Reply::Status(word) => held(0, word, 0, 0, 0, false, false),
+        Reply::Data(left) => held(1, 0, 0, 0, left, false, false),
+        Reply::Registers { address, left } => held(2, 0, 0, address, left, false, false),
+        Reply::Check => bare(3),
+    }
+}
+
+fn of_phase(phase: Phase) -> Parts {
+    match phase {
+        Phase::Idle => bare(0),
+        Phase::Collecting {
+            command: _,
+            got,
+            crc,
+            mine,
+            released,
+            blocked,
+        } => held(1, got, crc, mine, 0, released, blocked),
+        Phase::Answering { reply: _, crc } => held(2, 0, crc, 0, 0, false, false),
+        Phase::Discarding => bare(3),
+    }
+}
+
+// The command or the reply that it holds.
+fn of_open(phase: Phase) -> Parts {
+    match phase {
+        Phase::Idle => bare(0),
+        Phase::Collecting {
+            command,
+            got: _,
+            crc: _,
+            mine: _,
+            released: _,
+            blocked: _,
+        } => of_command(command),
+        Phase::Answering { reply, crc: _ } => of_reply(reply),
+        Phase::Discarding => bare(0),
+    }
+}
+
+fn are(f: &Fields, from: usize, numbers: &[u16]) -> bool {
+    let mut same = true;
+    let mut i: usize = 0;
+    while i < numbers.len() {
+        same = same & (at(f, std::num::wrapping_add_usize(from, i)) == numbers[i]);
+        i = i + 1;
+    }
+    same
+}
+
+fn are_bits(f: &Fields, from: usize, bits: &[bool]) -> bool {
+    let mut same = true;
+    let mut i: usize = 0;
+    while i < bits.len() {
+        same = same & (at(f, std::num::wrapping_add_usize(from, i)) == bits[i] as u16);
+        i = i + 1;
+    }
+    same
+}
+
+fn are_parts(f: &Fields, from: usize, p: Parts) -> bool
+    requires { ⌜ from ≤ 100 ⌝ }
+{
+    are(f, from, &[p.kind, p.a, p.b, p.c, p.d]) & are_bits(f, from + 5, &[p.x, p.y])
+}
+
+fn is_place(f: &Fields, from: usize, p: Place) -> bool
+    requires { ⌜ from ≤ 130 ⌝ }
+{
+    are(f, from, &[p.words, p.ends, p.crc_sent, p.crc_read])
+        & are_bits(
+            f,
+            from + 4,
+            &[p.store, p.compare, p.damaged, p.sent, p.read],
+        )
+}
+
+fn are_places(f: &Fields, queue: Queue) -> bool {
+    let mut same = true;
+    let mut i: usize = 0;
+    while i < 8 {
+        same = same & is_place(f, 67 + 9 * i, queue.places[i]);
+        i = i + 1;
+    }
+    same
+}
+
+fn is_control(f: &Fields, c: Control) -> bool {
+    let mode = c.mode;
+    let r = c.regs;
+    let g = c.flags;
+    let bits = [
+        c.drdy,
+        g.otp,
+        g.por,
+        g.srst,
+        g.reg_write,
+        g.spi_crc,
+        g.spi_cs,
+        g.queue_ovf,
+        g.check_bit,
+        g.line_crc,
+        g.sin,
+        g.txffovf,
+        g.txffuvf,
+        g.rxffovf,
+        g.rxffuvf,
+    ];
+    let numbers = [
+        of_mode(mode),
+        r.spictrl,
+        r.ccsictrl,
+        r.txfflvl,
+        r.rxfflvl,
+        r.diagmask,
+    ];
+    are(f, 0, &numbers) & are_bits(f, 6, &bits)
+}
+
+fn are_counts(f: &Fields, s: Sending, r: Receiving, c: Clock) -> bool {
+    let numbers = [
+        s.tx.head,
+        s.tx.count,
+        r.rx.head,
+        r.rx.count,
+        s.queue.used,
+        s.queue.begun,
+        s.sender.gone,
+        s.sender.left,
+        s.sender.ends,
+        c.reading,
+        c.mark,
+        c.watch_mark,
+    ];
+    let g = r.reader;
+    let bits = [c.watching, c.sin, g.belongs, g.storing, g.stored];
+    are(f, 21, &numbers) & are_bits(f, 33, &bits)
+}
+
+// Eleven words alike.
+fn is_frame(f: &Fields, frame: Frame) -> bool {
+    let phase = frame.phase;
+    let h = frame.held;
+    let mut same = are_parts(f, 53, of_phase(phase)) & are_parts(f, 60, of_open(phase));
+    let mut i: usize = 0;
+    while i < 11 {
+        same = same & (h[i] == at(f, 38));
+        i = i + 1;
+    }
+    same
+}
+
+pub fn is(f: &Fields, b: Bridge) -> bool {
+    let sender = b.sending.sender;
+    let piece = sender.piece;
+    let reader = b.receiving.reader;
+    let ear = reader.ear;
+    is_control(f, b.control)
+        & are_counts(f, b.sending, b.receiving, b.clock)
+        & are_parts(f, 39, of_piece(piece))
+        & are_parts(f, 46, of_ear(ear))
+        & is_frame(f, b.frame)
+        & are_places(f, b.sending.queue)
+}
