@@ -5,12 +5,11 @@ use Prim.Native.Nat.{ℕ, _-_, _≤_}
 use native.Mathlib.Omega.{arith}
 use Rattle.base.specs.Pick.{pick-true, pick-false}
 use Rattle.command.specs.declared.Command.{Command}
-use Rattle.registers.specs.declared.Mode.{Mode}
 use Rattle.state.specs.declared.Reply.{Reply}
 use Rattle.state.specs.declared.Phase.{Phase}
 use Rattle.state.specs.declared.Phase.the-variants.{Collecting}
 use Rattle.state.specs.Frame.{isForward, dataWords, owedBy, mineOf, toCome, collectSound, replySound, phaseSound}
-use Rattle.frame_rules.specs.Frames.{otpSound, isUnmarked}
+use Rattle.frame_rules.specs.Frames.{isUnmarked}
 
 -- an arm knows the constructor
 pub to-collect : (v w : Command) (got mine : ℕ) (released blocked x : Bool) → v ≡ w → x ≡ collectSound w got mine released blocked
@@ -37,9 +36,6 @@ pub forward-told : (v : Phase) (command : Command) (got crc mine : ℕ) (release
     → t ≡ isForward command → (t && not blocked) ≡ isUnmarked v
 unfolding isUnmarked
 forward-told v command got crc mine released blocked t h e = rw (h, e)
-
-pub to-otp : (v w : Mode) (otp x : Bool) → v ≡ w → x ≡ otpSound w otp → x ≡ otpSound v otp
-to-otp v w otp x h e = rw h e
 
 -- what a forward owes, by the tests
 module _ (command : Command) (got words : ℕ) (released blocked : Bool) (w : words ≡ dataWords command) where
