@@ -1,20 +1,25 @@
 #!/usr/bin/env python3
-"""Holds what the gate runs of the bench program to examples/.
+"""Holds what the gate runs of the bench's two programs to examples/.
 
 crates/bench/stdin is all of examples/*.txt, turned into one script by tools/script.py, and a record that is no event at its end;
-crates/bench/stdout is examples/expected/*.out and `bad record`. `rt ci` runs the program on the first and compares with the second.
+crates/bench/stdout is examples/expected/*.out and `bad record`. crates/states has the same input; the front of what it prints is the bench's,
+and tools/explain.py makes examples/explained/*.out of it. `rt ci` runs both programs on the first and compares with the second.
 
-examples.py          `examples: N scripts stand in the bench's input`, or what differs and exit status 1
-examples.py --write  writes the two files
+examples.py          `examples: N scripts stand in the programs' input`, or what differs and exit status 1
+examples.py --write  writes the programs' files and the words; needs target/bin/states
 """
 import pathlib
 import subprocess
 import sys
 
 TOP = pathlib.Path(__file__).resolve().parent.parent
-BENCH = TOP / "crates/bench"
+BENCH, STATES = TOP / "crates/bench", TOP / "crates/states"
+EXAMPLES = sorted((TOP / "examples").glob("*.txt"))
 HEAD = b"CWB\x00\x01"
 NO_EVENT = bytes([9, 0, 0])
+sys.dont_write_bytecode = True
+sys.path.insert(0, str(TOP / "tools"))
+import explain  # noqa: E402
 
 
 def script(text):
@@ -24,34 +29,70 @@ def script(text):
 
 
 def wanted():
-    """The program's input and output, from the examples."""
-    stdin, stdout, count = HEAD, b"", 0
-    for text in sorted((TOP / "examples").glob("*.txt")):
+    """The bench's input and output, from the examples."""
+    stdin, stdout = HEAD, b""
+    for text in EXAMPLES:
         made = script(text.read_bytes())
         if made is None or not made.startswith(HEAD):
             sys.exit("examples: %s is refused" % text.name)
         stdin += made[len(HEAD) :]
         stdout += (TOP / "examples/expected" / (text.stem + ".out")).read_bytes()
-        count += 1
-    return stdin + NO_EVENT, stdout + b"bad record\n", count
+    return stdin + NO_EVENT, stdout + b"bad record\n"
+
+
+def fronts(states):
+    """The lines of the bench in what `states` prints."""
+    lines = [b" ".join(line.split(b" ")[:5]) for line in states.splitlines()]
+    return b"\n".join(line for line in lines if not line.startswith(b"start")) + b"\n"
+
+
+def explained(states):
+    """Each example's words, of all that `states` prints."""
+    lines = explain.told(states.decode().splitlines())
+    for text in EXAMPLES:
+        events = (TOP / "examples/expected" / (text.stem + ".out")).read_text().count("\n")
+        yield TOP / "examples/explained" / (text.stem + ".out"), "".join(next(lines) + "\n" for _ in range(events)).encode()
+
+
+def write(stdin, stdout):
+    program = TOP / "target/bin/states"
+    if not program.exists():
+        sys.exit("examples: %s is not built: run `rt check states`" % program.relative_to(TOP))
+    states = subprocess.run([program], input=stdin, capture_output=True, check=True).stdout
+    for place, text in ((BENCH / "stdin", stdin), (BENCH / "stdout", stdout), (STATES / "stdin", stdin), (STATES / "stdout", states), *explained(states)):
+        place.parent.mkdir(exist_ok=True)
+        place.write_bytes(text)
+
+
+def wrong(stdin, stdout):
+    for bad in (b"word 20000\n", b"tick 2\n", b"hello\n"):
+        if script(bad) is not None:
+            yield "a bad text was taken: %r" % bad
+    states = (STATES / "stdout").read_bytes()
+    held = [(BENCH / "stdin", stdin), (BENCH / "stdout", stdout), (STATES / "stdin", stdin), *explained(states)]
+    for place, want in held:
+        if not place.exists() or place.read_bytes() != want:
+            yield "%s is not what examples/ gives" % place.relative_to(TOP)
+    if fronts(states) != stdout:
+        yield "crates/states/stdout has other events than the bench's"
+    known = {text.stem for text in EXAMPLES}
+    for out in TOP.glob("examples/ex*/*.out"):
+        if out.stem not in known:
+            yield "%s has no text" % out.relative_to(TOP)
 
 
 def main():
-    stdin, stdout, count = wanted()
+    stdin, stdout = wanted()
     if sys.argv[1:] == ["--write"]:
-        (BENCH / "stdin").write_bytes(stdin)
-        (BENCH / "stdout").write_bytes(stdout)
+        write(stdin, stdout)
         return 0
-    for bad in (b"word 20000\n", b"tick 2\n", b"hello\n"):
-        if script(bad) is not None:
-            print("examples: a bad text was taken: %r" % bad)
-            return 1
-    for name, want in (("stdin", stdin), ("stdout", stdout)):
-        if (BENCH / name).read_bytes() != want:
-            print("examples: crates/bench/%s is not what examples/ gives" % name)
-            return 1
-    print("examples: %d scripts stand in the bench's input" % count)
-    return 0
+    if sys.argv[1:]:
+        sys.exit(__doc__)
+    bad = list(wrong(stdin, stdout))
+    print(*("examples: " + what for what in bad), sep="\n", end="\n" if bad else "")
+    if not bad:
+        print("examples: %d scripts stand in the programs' input" % len(EXAMPLES))
+    return bool(bad)
 
 
 sys.exit(main())

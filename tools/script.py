@@ -1,9 +1,9 @@
 #!/usr/bin/env python3
 """Turns a text into a script of the bench program (01 The bench program).
 
-    script.py FILE.txt > FILE.cwb      FILE `-` is standard input
+    tools/script.py examples/first-light.txt > first-light.cwb      FILE `-` is standard input
 
-One event a line. `#` begins a comment, blank lines are skipped.
+One event a line. `#` begins a comment, blank lines are skipped. UTF-8, with or without a byte-order mark.
 
     power good          power-up; `power bad` with bad OTP
     word 2000           host word, four hex digits
@@ -20,24 +20,31 @@ Several events a line:
     crc 2000 AAF0       the CRC word of these words alone, where a frame's words are written one by one
     answer 3            as many host words FFFF, each fetches one answer word; 1 to 65535
 
-Any other text: `FILE:LINE: expected .., found ..` on standard error, exit status 1, nothing written.
+Any other text: `FILE:LINE: expected .., found ..` on standard error, exit status 1, nothing written. Status 2: the command line is wrong.
 """
 import binascii
+import codecs
 import re
 import sys
 
-HEAD = b"CWB\x00\x01"
+MARK = b"CWB"
+HEAD = MARK + b"\x00\x01"
 POWER, WORD, RELEASE, TICK, CLOCK = range(5)
 FILLER = 0xFFFF
 START = 0xFFFF
 
 
 class Refused(Exception):
-    """A line that is no event: what was expected, what was found."""
+    """A file or a line that is no text of events: where, what was expected, what was found."""
+
+
+def seen(words):
+    """Words as they can be seen: what is not plain ASCII by its number."""
+    return "`%s`" % " ".join(words).encode("ascii", "backslashreplace").decode() if words else "nothing"
 
 
 def refuse(expected, found):
-    raise Refused("expected %s, found %s" % (expected, "`%s`" % " ".join(found) if found else "nothing"))
+    raise Refused("expected %s, found %s" % (expected, seen(found)))
 
 
 def records(kind, values):
@@ -142,8 +149,22 @@ def script(name, text):
         try:
             made.append(events(line))
         except Refused as refused:
-            sys.exit("%s:%d: %s" % (name, number, refused))
+            raise Refused("%s:%d: %s" % (name, number, refused)) from None
     return b"".join(made)
+
+
+def is_wide(data):
+    """Begins with the byte-order mark of UTF-16."""
+    return data[:2] in (codecs.BOM_UTF16_LE, codecs.BOM_UTF16_BE)
+
+
+def decoded(name, data):
+    """The text of a file. What is not UTF-8 may stand in comments."""
+    if is_wide(data):
+        raise Refused("%s: the text is UTF-16: save it as UTF-8" % name)
+    if data.startswith(MARK + b"\x00"):
+        raise Refused("%s: a script's bytes (CWB), not a text: the bench program reads it as it is" % name)
+    return data.decode("utf-8-sig", errors="replace")
 
 
 def read(name):
@@ -153,14 +174,25 @@ def read(name):
         with open(name, "rb") as file:
             return file.read()
     except OSError as error:
-        sys.exit("%s: %s" % (name, error.strerror))
+        raise Refused("%s: %s" % (name, error.strerror)) from None
 
 
 def main():
+    if sys.argv[1:] in (["--help"], ["-h"]):
+        print(__doc__.strip())
+        return
     if len(sys.argv) != 2:
-        sys.exit(__doc__)
+        print("tools/script.py: one FILE, not %d; see tools/script.py --help" % (len(sys.argv) - 1), file=sys.stderr)
+        sys.exit(2)
     name = sys.argv[1]
-    sys.stdout.buffer.write(script(name, read(name).decode(errors="replace")))
+    try:
+        made = script(name, decoded(name, read(name)))
+        sys.stdout.buffer.write(made)
+        sys.stdout.buffer.flush()
+    except Refused as refused:
+        sys.exit(str(refused))
+    except OSError as error:
+        sys.exit("%s: the script cannot be written: %s" % (name, error.strerror))
 
 
 if __name__ == "__main__":

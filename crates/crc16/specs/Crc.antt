@@ -5,7 +5,7 @@ use Prim.Native.Nat.{ℕ, zero, suc, _*_, _/_, _%_}
 use lib.Bits.{bitXor}
 use Rattle.base.specs.Bits.{wordLength, wordEnd, topBit, val, highFirst}
 
--- x^16 + x^12 + x^5 + 1, without its x^16. 01 Frames (ours)
+-- x^16 + x^12 + x^5 + 1, without its x^16. 01 Frames (ours), as 001 7.5.3
 abbrev pub polynomial : ℕ
 polynomial = 0x1021
 

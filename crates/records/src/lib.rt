@@ -23,6 +23,9 @@ ghost use Prim.Native.Nat.{_≤_};
 
 pub const COLUMNS: usize = 141;
 
+// Those of the state; behind them are the cells of the lent stores.
+const STATE: usize = 139;
+
 pub type Fields = [u16; COLUMNS];
 
 // A variant's number, and what the variants of its type hold: seven columns.
@@ -379,54 +382,55 @@ fn of_open(phase: Phase) -> Parts {
     }
 }
 
-fn are(f: &Fields, from: usize, numbers: &[u16]) -> bool {
-    let mut same = true;
+fn set(f: &mut Fields, column: usize, value: u16) {
+    if column < COLUMNS {
+        f[column] = value;
+    }
+}
+
+fn put(f: &mut Fields, from: usize, numbers: &[u16]) {
     let mut i: usize = 0;
     while i < numbers.len() {
-        same = same & (at(f, std::num::wrapping_add_usize(from, i)) == numbers[i]);
+        set(f, std::num::wrapping_add_usize(from, i), numbers[i]);
         i = i + 1;
     }
-    same
 }
 
-fn are_bits(f: &Fields, from: usize, bits: &[bool]) -> bool {
-    let mut same = true;
+fn put_bits(f: &mut Fields, from: usize, bits: &[bool]) {
     let mut i: usize = 0;
     while i < bits.len() {
-        same = same & (at(f, std::num::wrapping_add_usize(from, i)) == bits[i] as u16);
+        set(f, std::num::wrapping_add_usize(from, i), bits[i] as u16);
         i = i + 1;
     }
-    same
 }
 
-fn are_parts(f: &Fields, from: usize, p: Parts) -> bool
+fn put_parts(f: &mut Fields, from: usize, p: Parts)
     requires { ⌜ from ≤ 100 ⌝ }
 {
-    are(f, from, &[p.kind, p.a, p.b, p.c, p.d]) & are_bits(f, from + 5, &[p.x, p.y])
+    put(f, from, &[p.kind, p.a, p.b, p.c, p.d]);
+    put_bits(f, from + 5, &[p.x, p.y]);
 }
 
-fn is_place(f: &Fields, from: usize, p: Place) -> bool
+fn put_place(f: &mut Fields, from: usize, p: Place)
     requires { ⌜ from ≤ 130 ⌝ }
 {
-    are(f, from, &[p.words, p.ends, p.crc_sent, p.crc_read])
-        & are_bits(
-            f,
-            from + 4,
-            &[p.store, p.compare, p.damaged, p.sent, p.read],
-        )
+    put(f, from, &[p.words, p.ends, p.crc_sent, p.crc_read]);
+    put_bits(
+        f,
+        from + 4,
+        &[p.store, p.compare, p.damaged, p.sent, p.read],
+    );
 }
 
-fn are_places(f: &Fields, queue: Queue) -> bool {
-    let mut same = true;
+fn put_places(f: &mut Fields, queue: Queue) {
     let mut i: usize = 0;
     while i < 8 {
-        same = same & is_place(f, 67 + 9 * i, queue.places[i]);
+        put_place(f, 67 + 9 * i, queue.places[i]);
         i = i + 1;
     }
-    same
 }
 
-fn is_control(f: &Fields, c: Control) -> bool {
+fn put_control(f: &mut Fields, c: Control) {
     let mode = c.mode;
     let r = c.regs;
     let g = c.flags;
@@ -455,10 +459,11 @@ fn is_control(f: &Fields, c: Control) -> bool {
         r.rxfflvl,
         r.diagmask,
     ];
-    are(f, 0, &numbers) & are_bits(f, 6, &bits)
+    put(f, 0, &numbers);
+    put_bits(f, 6, &bits);
 }
 
-fn are_counts(f: &Fields, s: Sending, r: Receiving, c: Clock) -> bool {
+fn put_counts(f: &mut Fields, s: Sending, r: Receiving, c: Clock) {
     let numbers = [
         s.tx.head,
         s.tx.count,
@@ -475,31 +480,52 @@ fn are_counts(f: &Fields, s: Sending, r: Receiving, c: Clock) -> bool {
     ];
     let g = r.reader;
     let bits = [c.watching, c.sin, g.belongs, g.storing, g.stored];
-    are(f, 21, &numbers) & are_bits(f, 33, &bits)
+    put(f, 21, &numbers);
+    put_bits(f, 33, &bits);
 }
 
-// Eleven words alike.
-fn is_frame(f: &Fields, frame: Frame) -> bool {
+fn put_frame(f: &mut Fields, frame: Frame) {
     let phase = frame.phase;
-    let h = frame.held;
-    let mut same = are_parts(f, 53, of_phase(phase)) & are_parts(f, 60, of_open(phase));
+    set(f, 38, frame.held[0]);
+    put_parts(f, 53, of_phase(phase));
+    put_parts(f, 60, of_open(phase));
+}
+
+// A record's numbers. Of the eleven held words there is the first; the lent stores' cells are no part of it, and 0.
+pub fn fields(b: Bridge) -> Fields {
+    let sender = b.sending.sender;
+    let piece = sender.piece;
+    let reader = b.receiving.reader;
+    let ear = reader.ear;
+    let mut f = [0u16; COLUMNS];
+    put_control(&mut f, b.control);
+    put_counts(&mut f, b.sending, b.receiving, b.clock);
+    put_parts(&mut f, 39, of_piece(piece));
+    put_parts(&mut f, 46, of_ear(ear));
+    put_frame(&mut f, b.frame);
+    put_places(&mut f, b.sending.queue);
+    f
+}
+
+fn are_held(held: [u16; 11], word: u16) -> bool {
+    let mut same = true;
     let mut i: usize = 0;
     while i < 11 {
-        same = same & (h[i] == at(f, 38));
+        same = same & (held[i] == word);
         i = i + 1;
     }
     same
 }
 
+// Whether these are the record's numbers, and its eleven held words alike.
 pub fn is(f: &Fields, b: Bridge) -> bool {
-    let sender = b.sending.sender;
-    let piece = sender.piece;
-    let reader = b.receiving.reader;
-    let ear = reader.ear;
-    is_control(f, b.control)
-        & are_counts(f, b.sending, b.receiving, b.clock)
-        & are_parts(f, 39, of_piece(piece))
-        & are_parts(f, 46, of_ear(ear))
-        & is_frame(f, b.frame)
-        & are_places(f, b.sending.queue)
+    let own = fields(b);
+    let held = b.frame.held;
+    let mut same = are_held(held, at(f, 38));
+    let mut i: usize = 0;
+    while i < STATE {
+        same = same & (own[i] == at(f, i));
+        i = i + 1;
+    }
+    same
 }

@@ -17,13 +17,13 @@ use Rattle.registers.specs.declared.Control.{Control}
 abbrev pub row : ℕ → ℕ → Register
 row reset writable = record { reset = reset; writable = writable }
 
--- The table. Addresses 4 to 10 with fields and reset values are the sheet's; 0 to 3 and the clear bits are ours.
+-- The table (01 Registers, where 0 to 3 and the clear bits are ours; docs/NUMBERS.md says what of them the sheet has too).
 unfoldable pub table : List Register
 table =
-    row 0x0000 0x0000  -- 0 DEVID. ours
-    ∷ row 0x0000 0xFF01  -- 1 SPICTRL: bits 15..8 watchdog ms (0 off), bit 0 no answer. ours
-    ∷ row 0x0000 0xFFFF  -- 2 CCSICTRL. ours
-    ∷ row 0x01FF 0x81FF  -- 3 TXFFLVL: bits 8..0; bit 15 clears. ours, reset as 001 7.6.4
+    row 0x0000 0x0000  -- 0 DEVID. ours (001 7.6.1 has 0xED99)
+    ∷ row 0x0000 0xFF01  -- 1 SPICTRL: bits 15..8 watchdog ms (0 off), bit 0 no answer. ours; bit 0 as 001 7.6.2
+    ∷ row 0x0000 0xFFFF  -- 2 CCSICTRL. ours, as 001 7.6.3
+    ∷ row 0x01FF 0x81FF  -- 3 TXFFLVL: bits 8..0; bit 15 clears. ours, as 001 7.6.4
     ∷ row 0x00FF 0x80FF  -- 4 RXFFLVL: bits 7..0; bit 15 clears. 001 7.6.5
     ∷ row 0x0000 0x0005  -- 5 DEVCTRL: 2 force, 0 exit failsafe. 001 7.6.6
     ∷ row 0x0000 0x0B01  -- 6 DIAGMASK: bits 11, 9, 8, 0. 001 7.6.7

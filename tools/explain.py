@@ -1,0 +1,328 @@
+#!/usr/bin/env python3
+"""Says in words what each event of a script did.
+
+    tools/bench --explain FILE        runs the script and says it
+    target/bin/states <FILE.cwb | tools/explain.py
+
+Input: what the program `states` (crates/states) prints, the bench's line of each event and the columns of the state that it changed. So the
+words are about the state of the proved bridge; nothing here works out what it should be. The columns' names are those of
+crates/refusals/stdin.
+"""
+import pathlib
+import re
+import sys
+
+TABLE = pathlib.Path(__file__).resolve().parent.parent / "crates/refusals/stdin"
+POWER, WORD, RELEASE, TICK, CLOCK = range(5)
+FILLER = 0xFFFF
+PLACES, END_BITS, WORD_BITS = 8, 18, 16
+COMMANDS = {2: "FWD_WR_CRC", 3: "FWD_WR", 4: "FWD_WR_END_CRC", 5: "FWD_WR_END", 6: "FWD_RD_END_CRC", 7: "FWD_RD_END", 8: "DATA_RD_CRC",
+            9: "DATA_RD", 10: "REG_WR_CRC", 11: "REG_WR", 12: "REG_RD_CRC", 13: "REG_RD", 14: "SOFTRESET_CRC"}
+REGISTERS = ("DEVID", "SPICTRL", "CCSICTRL", "TXFFLVL", "RXFFLVL", "DEVCTRL", "DIAGMASK", "STATUS", "IFST", "TXFFST", "RXFFST")
+READ_ONLY = ("DEVID", "IFST", "TXFFST", "RXFFST")
+BITS = {
+    "STATUS": {14: "CCSI", 12: "TXFF", 11: "RXFF", 9: "SRST", 8: "SPI", 7: "REG_WRITE", 6: "SPI_CRC", 3: "OTP", 1: "POR", 0: "ERR"},
+    "IFST": {9: "SPI_CS", 4: "QUEUE_OVF", 3: "CHECK_BIT", 1: "line CRC", 0: "SIN"},
+    "TXFFST": {15: "TXFFOVF", 14: "TXFFUVF"},
+    "RXFFST": {15: "RXFFOVF", 14: "RXFFUVF"},
+}
+MODES = ("NORMAL", "INIT", "FAILSAFE")
+STATES = {0: "NORMAL", 1: "INIT", 3: "FAILSAFE"}  # as bits 5..4 of STATUS say it
+FLAGS = {"otp": "OTP", "por": "POR", "srst": "SRST", "reg_write": "REG_WRITE", "spi_crc": "SPI_CRC", "spi_cs": "SPI_CS", "queue_ovf": "QUEUE_OVF",
+         "check_bit": "CHECK_BIT", "line_crc": "line CRC", "sin": "SIN", "txffovf": "TXFFOVF", "txffuvf": "TXFFUVF", "rxffovf": "RXFFOVF",
+         "rxffuvf": "RXFFUVF"}
+BLOCKING = ("queue_ovf", "txffovf", "txffuvf")
+NOTES = {
+    1: "a store of wrong length was lent: nothing was done",
+    2: "a record that breaks the rules was lent: nothing was done",
+    3: "no command word: all is dropped until chip select is released",
+    4: "dropped: chip select has to be released first",
+    5: "dropped: a blocking flag is up, or was in this frame",
+    6: "wrong CRC word: nothing of this frame is queued, written or read",
+    7: "wrong CRC word: what this frame did before it stands",
+    8: "TX is full: the word is dropped, all that was not sent is lost",
+    9: "no free place in the queue: all that was not sent is lost",
+    10: "CCSICTRL is not written: the line is busy",
+    11: "no soft reset: the bridge is still sending",
+    12: "chip select released before the CRC word",
+    13: "TX ran dry: one END ends this command",
+    14: "RX is full: the word read back is dropped",
+    15: "RX is empty: this FFFF is no word of the line",
+}
+
+
+class NotTold(Exception):
+    """Input that is not what `states` prints."""
+
+
+def names():
+    """The columns' names in order, and the numbers of variants by name."""
+    text = TABLE.read_text()
+    columns = re.search(r"columns \{(.*?)\}", text, re.S)[1].split()
+    numbers = dict(pair.split("=") for pair in re.search(r"numbers \((.*?)\)", text, re.S)[1].split())
+    return columns, {name: int(value) for name, value in numbers.items()}
+
+
+COLUMNS, NUMBER = names()
+
+
+def changed(state, parts):
+    """The state after these COLUMN=VALUE."""
+    after = dict(state)
+    for part in parts:
+        column, value = part.split("=")
+        after[COLUMNS[int(column)]] = int(value)
+    return after
+
+
+def many(count, what):
+    return "%d %s%s" % (count, what, "" if count == 1 else "s")
+
+
+def is_in(state, column, name):
+    return state[column] == NUMBER[name]
+
+
+# ---- frames ----
+
+def registers(address, count):
+    last = REGISTERS[address + count - 1]
+    return REGISTERS[address] if count == 1 else "%s to %s" % (REGISTERS[address], last)
+
+
+def command(word, state):
+    """A command word in words, by the command that the bridge opened."""
+    name, kind = COMMANDS[word >> 12], state["open"]
+    if kind == NUMBER["forward"]:
+        ends = ", " + many(state["open.ends"], "extra END") if state["open.ends"] else ""
+        return "%s of %s%s" % (name, many(state["open.words"], "word"), ends)
+    if kind == NUMBER["data_read"]:
+        return "%s: %s of RX" % (name, many(state["open.words"], "word"))
+    if kind in (NUMBER["register_write"], NUMBER["register_read"]):
+        return "%s: %s" % (name, registers(state["open.address"], state["open.count"]))
+    return name
+
+
+def data_words(state):
+    """How many data words the open frame has."""
+    if is_in(state, "open", "forward"):
+        return state["open.words"]
+    return state["open.count"] if is_in(state, "open", "register_write") else 0
+
+
+def value_of(name, value):
+    """A register's value with its flags by name."""
+    said = [flag for bit, flag in BITS.get(name, {}).items() if value >> bit & 1]
+    if name == "STATUS":
+        said = [STATES.get(value >> 4 & 3, "state 2")] + (said or ["no flag"])
+        said.append("nothing to fetch" if value >> 10 & 1 else "words ready in RX")
+    if name == "TXFFST":
+        said.append(many(value & 0x1FF, "word") + " in TX")
+    if name == "RXFFST":
+        said.append(many(value & 0xFF, "word") + " in RX")
+    return "%s %04X%s" % (name, value, " (%s)" % ", ".join(said) if said else "")
+
+
+def opened(event, before, after):
+    if event.value == FILLER:
+        yield "filler, outside a frame"
+    elif is_in(after, "phase", "collecting"):
+        yield "frame opened: " + command(event.value, after)
+
+
+def data(event, before, after):
+    """A data word of the open frame."""
+    number = "word %d of %d" % (before["phase.got"] + 1, data_words(before))
+    if is_in(before, "open", "forward"):
+        stored = event.note not in (5, 8)
+        yield number + (" stored, %s in TX" % many(after["tx.count"], "word") if stored and event.note != 9 else "")
+        return
+    name = REGISTERS[before["open.address"] + before["phase.got"]]
+    if before["open.crc"]:
+        yield "%s, for %s, kept until the CRC word" % (number, name)
+    elif name in READ_ONLY:
+        yield "%s, for %s, which cannot be written" % (number, name)
+    elif event.note != 10:
+        yield "%s: %04X written to %s" % (number, event.value, name)
+
+
+def closed(event, before, after):
+    """The CRC word."""
+    if event.note not in (6, 7):
+        yield "CRC word, right"
+        if is_in(before, "open", "register_write") and before["open.crc"]:
+            yield registers(before["open.address"], before["open.count"]) + " written"
+        if is_in(before, "open", "soft_reset") and not event.note:
+            yield "soft reset: TX, queue and RX emptied"
+    if is_in(after, "phase", "no_frame"):
+        yield "no answer, the frame is over"
+
+
+def answered(event, before, after):
+    reply = before["open"]
+    if reply == NUMBER["check"]:
+        yield "answer: CRC %04X, the frame is over" % event.sdo
+    elif reply == NUMBER["status"]:
+        yield "answer: " + value_of("STATUS", event.sdo)
+    elif reply == NUMBER["registers"]:
+        yield "answer: " + value_of(REGISTERS[before["open.address"]], event.sdo)
+    elif event.note != 15:
+        yield "answer: word %04X taken from RX, %s left there" % (event.sdo, after["rx.count"] or "none")
+
+
+def host_word(event, before, after):
+    if is_in(before, "phase", "no_frame"):
+        yield from opened(event, before, after)
+    elif is_in(before, "phase", "answering"):
+        yield from answered(event, before, after)
+    elif is_in(before, "phase", "collecting"):
+        due = before["phase.got"] < data_words(before)
+        yield from (data if due else closed)(event, before, after)
+
+
+def released(event, before, after):
+    if is_in(before, "phase", "no_frame"):
+        yield "chip select released"
+    elif is_in(before, "phase", "answering"):
+        yield "chip select released, the rest of the answer is dropped"
+    elif is_in(before, "phase", "discarding"):
+        yield "chip select released, the next word may open a frame"
+    elif before["phase.mine"]:
+        yield "%s taken back" % many(before["phase.mine"], "word")
+
+
+# ---- the line ----
+
+def why_waiting(state):
+    if not is_in(state, "mode", "normal"):
+        return "state " + MODES[state["mode"]]
+    up = [FLAGS[flag] for flag in ("por", *BLOCKING) if state[flag]]
+    return " and ".join(up) + " up"
+
+
+def sent(event, before, after):
+    """What the sender did in a tick."""
+    gone = after["sender.gone"]
+    if is_in(after, "sender.piece", "start_bit"):
+        yield "SOUT: start bit, a command of %s begins" % many(after["sender.left"], "word")
+    elif is_in(after, "sender.piece", "word_piece"):
+        word = after["sender.word"]
+        if gone > WORD_BITS:
+            yield "SOUT: check bit, word %04X is sent" % word
+        else:
+            yield "SOUT: bit %d of word %04X" % (WORD_BITS - gone, word)
+    elif is_in(after, "sender.piece", "end_piece"):
+        yield "SOUT: END, bit %d of %d" % (gone, END_BITS)
+        if gone == END_BITS:
+            yield many(after["sender.ends"], "END") + " to go" if after["sender.ends"] else "all of it is sent"
+    elif after["used"] > after["begun"]:
+        yield "SOUT: idle, %s to send and none may start: %s" % (many(after["used"] - after["begun"], "command"), why_waiting(before))
+    else:
+        yield "SOUT: idle"
+
+
+def read(event, before, after):
+    """What the reader found in a tick."""
+    if is_in(before, "reader.ear", "quiet") and not is_in(after, "reader.ear", "quiet"):
+        yield "SIN: a command begins" + ("" if after["reader.belongs"] else ", which belongs to none that was sent")
+    elif is_in(before, "reader.ear", "group") and is_in(after, "reader.ear", "group") and after["reader.bits"] == 0 < before["reader.bits"]:
+        more = after["rx.count"] > before["rx.count"]
+        yield "SIN: word %04X read%s" % (before["reader.value"], ", stored, %s in RX" % many(after["rx.count"], "word") if more else "")
+    elif is_in(before, "reader.ear", "group") and is_in(after, "reader.ear", "lost"):
+        yield "SIN: wrong check bit, dropped from here to END"
+    elif is_in(after, "reader.ear", "quiet") and not is_in(before, "reader.ear", "quiet"):
+        yield "SIN: END"
+
+
+def ticked(event, before, after):
+    yield from sent(event, before, after)
+    yield from read(event, before, after)
+    if after["used"] < before["used"]:
+        yield "place freed, %d of %d in use" % (after["used"], PLACES)
+
+
+def clocked(event, before, after):
+    yield "clock reading %d ms" % event.value
+
+
+def flags_up(state):
+    return ", ".join(flag for column, flag in FLAGS.items() if state[column])
+
+
+def powered(event, before, after):
+    yield "power-up, %s OTP: state %s, %s up" % ("good" if event.value else "bad", MODES[after["mode"]], flags_up(after))
+
+
+# ---- what any event can do ----
+
+def is_owing(state):
+    return is_in(state, "sender.piece", "pause") and state["sender.ends"] > 0
+
+
+def beside(event, before, after):
+    """What is said of every event but a power-up, behind its own words."""
+    if after["used"] > before["used"]:
+        yield "queued, %d of %d places in use" % (after["used"], PLACES)
+    if is_owing(after) and not is_owing(before):
+        lost = before["used"]
+        yield "transmit clear: TX emptied, %s out of the queue, one END owed" % (many(lost, "place") if lost else "none")
+    if after["rx.count"] == 0 < before["rx.count"] and not is_in(before, "phase", "answering"):
+        yield "RX emptied"
+    for column, flag in FLAGS.items():
+        if after[column] > before[column]:
+            yield "flag %s up" % flag
+    down = [flag for column, flag in FLAGS.items() if after[column] < before[column]]
+    if down:
+        yield "down: " + ", ".join(down)
+    if after["drdy"] != before["drdy"]:
+        yield "DRDY %d: %s" % (after["drdy"], "nothing to fetch" if after["drdy"] else "words ready in RX")
+    if after["mode"] != before["mode"]:
+        yield "state " + MODES[after["mode"]]
+
+
+KINDS = {POWER: powered, WORD: host_word, RELEASE: released, TICK: ticked, CLOCK: clocked}
+
+
+class Event:
+    """A line of the bench."""
+
+    def __init__(self, parts):
+        self.kind, self.value, self.note, self.sdo = int(parts[0]), int(parts[1], 16), int(parts[2]), int(parts[3], 16)
+
+
+def words(event, before, after):
+    own = list(KINDS[event.kind](event, before, after))
+    note = ["note %d, %s" % (event.note, NOTES[event.note])] if event.note else []
+    return "; ".join(own + note + ([] if event.kind == POWER else list(beside(event, before, after))))
+
+
+def told(lines):
+    """Each of the bench's lines with its words beside it; a line that is no event stays as it is."""
+    state = dict.fromkeys(COLUMNS, 0)
+    for number, line in enumerate(lines, 1):
+        parts = line.split()
+        try:
+            if parts[:1] == ["start"]:
+                state = changed(state, parts[1:])
+            elif len(parts) < 5:
+                yield line.rstrip("\n")
+            else:
+                after = changed(state, parts[5:])
+                yield "%-16s  %s" % (" ".join(parts[:5]), words(Event(parts), state, after))
+                state = after
+        except (ValueError, IndexError, KeyError) as error:
+            raise NotTold("line %d is not what `states` prints: %s" % (number, line.strip())) from error
+
+
+def main():
+    if len(sys.argv) != 1:
+        sys.exit(__doc__)
+    try:
+        for line in told(sys.stdin):
+            print(line)
+    except NotTold as error:
+        sys.exit("explain: %s" % error)
+
+
+if __name__ == "__main__":
+    main()

@@ -1,0 +1,38 @@
+"""A copy of one crate among links to the others, in which a question can be put to the toolchain and nothing of the repository changes."""
+import contextlib
+import pathlib
+import shutil
+import subprocess
+import sys
+import tempfile
+
+ROOT = pathlib.Path(__file__).resolve().parent.parent
+
+
+@contextlib.contextmanager
+def copy_of(crate):
+    """The folder of the repository's stand-in; the crate's copy is crates/CRATE in it."""
+    with tempfile.TemporaryDirectory() as folder:
+        place = pathlib.Path(folder)
+        (place / "crates").mkdir()
+        for other in (ROOT / "crates").iterdir():
+            if other.name != crate:
+                (place / "crates" / other.name).symlink_to(other)
+        shutil.copytree(ROOT / "crates" / crate, place / "crates" / crate)
+        shutil.copy(ROOT / "crates.txt", place)
+        (place / "target").symlink_to(ROOT / "target")
+        yield place
+
+
+def checked(place, crate):
+    """Status and words of `rt dev`."""
+    ran = subprocess.run(["rt", "dev", crate], cwd=place, capture_output=True, text=True)
+    return ran.returncode, ran.stdout + ran.stderr
+
+
+def known(tool, crate):
+    """Leaves where there is no such crate, or nothing is built."""
+    if not (ROOT / "crates" / crate / "src").is_dir():
+        sys.exit("%s: no crate %s" % (tool, crate))
+    if not (ROOT / "target").is_dir():
+        sys.exit("%s: nothing is built: run `rt check %s`" % (tool, crate))
