@@ -33,6 +33,7 @@ use Rattle.release.specs.Release.{cut}
 use Rattle.answers.specs.Answers.{answerWith, dataAnswered, registerAnswered, answered}
 use Rattle.writes.specs.declared.Effects.{Effects}
 use Rattle.forwards.specs.declared.Granted.{Granted}
+use Rattle.forwards.specs.declared.Progress.{Progress}
 use Rattle.plan.specs.declared.Plan.{Plan}
 use Rattle.forwards.specs.declared.Wish.{Wish}
 use Rattle.bridge.specs.Runs.{refuses, faults}
@@ -106,17 +107,16 @@ module _ (b : Bridge) where
       let q : faults (pick refused LineBusy Done) ≡ false = pick-keeps (λ (n : Note). faults n ≡ false) _ _ _ (λ t. refl) (λ t. refl) in
       record { note = pick-keeps (λ (n : Note). ofHost n ≡ true) _ _ _ (λ t. refl) (λ t. refl); loud = λ h. cc; calm = λ h k. f h }
 
-  tame-data : (command : Command) (got sum mine : ℕ) (released blocked : Bool) (w : ℕ)
-      → TameBy b (dataWord b command got sum mine released blocked w)
+  tame-data : (command : Command) (at : Progress) (w : ℕ) → TameBy b (dataWord b command at w)
   unfolding dataWord forwardWord forwarded registerWord heldWord withWrite ofHost refuses faults
-  tame-data Filler got sum mine released blocked w = still _ _ refl refl
-  tame-data Malformed got sum mine released blocked w = still _ _ refl refl
-  tame-data (Forward crc words ends reads) got sum mine released blocked w = tame-guard _ _ _ _
-  tame-data (DataRead crc words) got sum mine released blocked w = still _ _ refl refl
-  tame-data (RegisterWrite crc address count) got sum mine released blocked w =
-      pick-keeps (TameBy b) _ _ _ (λ t. still _ _ refl refl) (λ t. tame-writes _ _ _ (write-calm (b .control) _ (address + got) w))
-  tame-data (RegisterRead crc address count) got sum mine released blocked w = still _ _ refl refl
-  tame-data SoftReset got sum mine released blocked w = still _ _ refl refl
+  tame-data Filler at w = still _ _ refl refl
+  tame-data Malformed at w = still _ _ refl refl
+  tame-data (Forward crc words ends reads) at w = tame-guard _ _ _ _
+  tame-data (DataRead crc words) at w = still _ _ refl refl
+  tame-data (RegisterWrite crc address count) at w =
+      pick-keeps (TameBy b) _ _ _ (λ t. still _ _ refl refl) (λ t. tame-writes _ _ _ (write-calm (b .control) _ (address + at .got) w))
+  tame-data (RegisterRead crc address count) at w = still _ _ refl refl
+  tame-data SoftReset at w = still _ _ refl refl
 
   -- notes 6 and 7
   tame-wrong : (crc : Bool) (mine : ℕ) → TameBy b (wrongCrc b crc mine)
@@ -158,7 +158,7 @@ module _ (b : Bridge) where
   unfolding plannedIn ofHost refuses faults
   tame-planned l Idle w x = tame-opened (l .decode w) _
   tame-planned l (Collecting command got sum mine released blocked) w x =
-      pick-keeps (TameBy b) _ _ _ (λ t. tame-data command got _ mine released blocked w) (λ t. tame-crc l command mine blocked _)
+      pick-keeps (TameBy b) _ _ _ (λ t. tame-data command _ w) (λ t. tame-crc l command mine blocked _)
   tame-planned l (Answering reply sum) w x = tame-answered l reply sum x
   tame-planned l Discarding w x = still _ _ refl refl
 

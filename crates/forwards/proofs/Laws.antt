@@ -7,7 +7,6 @@ use native.Mathlib.Omega.{arith}
 use lib.Dec.{ltb, leb, eqb}
 use types.Run.{OneOf, miss}
 use denote.Enum.Declared.{tagOf}
-use Rattle.command.specs.declared.Command.the-variants.{Forward}
 use Rattle.registers.specs.Registers.{blocking}
 use Rattle.registers.specs.declared.Control.{Control}
 use Rattle.state.specs.Queue.{newPlace}
@@ -17,8 +16,10 @@ use Rattle.state.specs.declared.Note.the-variants.{Done, WrongStores, BrokenRec
 use Rattle.state.specs.declared.Place.{Place}
 use Rattle.state.specs.declared.Store.the-variants.{Keep, Put}
 use Rattle.state.proofs.Note.{the-type}
-use Rattle.forwards.specs.Forward.{wish, guard, faulted, forwarded, releases, forwardWord, forwardBegun}
+use Rattle.forwards.specs.Forward.{wish, justBegun, wordCounted, guard, faulted, forwarded, releases, forwardWord, forwardBegun}
 use Rattle.forwards.specs.declared.Granted.{Granted}
+use Rattle.forwards.specs.declared.Fwd.{Fwd}
+use Rattle.forwards.specs.declared.Progress.{Progress}
 use Rattle.plan.specs.declared.Plan.{Plan}
 use borrow.Author.Tests.{ltb-true, ltb-false, le-leb, lt-leb}
 use Rattle.base.specs.Pick.{pick}
@@ -55,24 +56,23 @@ unfaulted c RxFull h = refl
 unfaulted c RxEmpty h = refl
 
 -- a forward's word by its parts
-pub to-forward-word : (b : Bridge) (crc : Bool) (words ends : ℕ) (reads : Bool) (got sum mine : ℕ) (released blocked : Bool) (w : ℕ)
-    (release : Bool) (p : Place) (g : Granted) (x : Plan)
-    → release ≡ releases crc words (got + 1) released (b .control .regs .txfflvl) (b .sending .tx .count + 1)
-    → p ≡ newPlace words ends reads
-    → g ≡ guard blocked (b .sending .tx .count) (b .sending .queue .used) (wish (Put w) release p)
-    → x ≡ forwarded b (Forward crc words ends reads) (got + 1) sum mine released blocked g
-    → x ≡ forwardWord b (Forward crc words ends reads) crc words ends reads (got + 1) sum mine released blocked w
+pub to-forward-word : (b : Bridge) (f : Fwd) (at : Progress) (w : ℕ) (release : Bool) (p : Place) (g : Granted) (x : Plan)
+    → release ≡ releases f (wordCounted at) (b .control .regs .txfflvl) (b .sending .tx .count + 1)
+    → p ≡ newPlace (f .words) (f .ends) (f .reads)
+    → g ≡ guard (at .blocked) (b .sending .tx .count) (b .sending .queue .used) (wish (Put w) release p)
+    → x ≡ forwarded b f (wordCounted at) g
+    → x ≡ forwardWord b f at w
 unfolding forwardWord
-to-forward-word b crc words ends reads got sum mine released blocked w release p g x hr hp hg e = rw (← hr, ← hp, ← hg) e
+to-forward-word b f at w release p g x hr hp hg e = rw (← hr, ← hp, ← hg) e
 
-pub to-forward-begun : (b : Bridge) (crc : Bool) (words ends : ℕ) (reads : Bool) (sum : ℕ) (blocked : Bool) (p : Place) (g : Granted) (x : Plan)
+pub to-forward-begun : (b : Bridge) (f : Fwd) (sum : ℕ) (blocked : Bool) (p : Place) (g : Granted) (x : Plan)
     → blocked ≡ blocking (b .control .flags)
-    → p ≡ newPlace words ends reads
-    → g ≡ guard blocked (b .sending .tx .count) (b .sending .queue .used) (wish Keep (not crc && eqb words 0 && ltb 0 ends) p)
-    → x ≡ forwarded b (Forward crc words ends reads) 0 sum 0 false blocked g
-    → x ≡ forwardBegun b (Forward crc words ends reads) crc words ends reads sum (blocking (b .control .flags))
+    → p ≡ newPlace (f .words) (f .ends) (f .reads)
+    → g ≡ guard blocked (b .sending .tx .count) (b .sending .queue .used) (wish Keep (not (f .crc) && eqb (f .words) 0 && ltb 0 (f .ends)) p)
+    → x ≡ forwarded b f (justBegun sum blocked) g
+    → x ≡ forwardBegun b f sum (blocking (b .control .flags))
 unfolding forwardBegun
-to-forward-begun b crc words ends reads sum blocked p g x hb hp hg e = rw (← hb, ← hp, ← hg) e
+to-forward-begun b f sum blocked p g x hb hp hg e = rw (← hb, ← hp, ← hg) e
 
 -- an arm of the words not released
 pub at-case-4 : {A B C D E : Type 0} (f : A → C → D → E → B) (v k : A) (p : C) (q : D) (r : E) (x : B) → v ≡ k → x ≡ f k p q r → x ≡ f v p q r

@@ -3,7 +3,7 @@ use mathlib.Core.Bool.{Bool, true, false, not, _&&_, _||_}
 use Prim.Native.Nat.{ℕ, _+_}
 use lib.Dec.{ltb, leb, eqb}
 use Rattle.base.specs.Pick.{pick}
-use Rattle.command.specs.declared.Command.{Command}
+use Rattle.command.specs.declared.Command.the-variants.{Forward}
 use Rattle.registers.specs.Raising.{raisedIn}
 use Rattle.registers.specs.declared.Control.{Control}
 use Rattle.registers.specs.declared.Flag.the-variants.{QueueOvf, TxOvf}
@@ -14,7 +14,6 @@ use Rattle.state.specs.declared.Deed.{Deed}
 use Rattle.state.specs.declared.Deed.the-variants.{Leave, Enqueue, TakeBack, ClearAll, ResetAll}
 use Rattle.state.specs.declared.Note.{Note}
 use Rattle.state.specs.declared.Note.the-variants.{Done, WrongStores, BrokenRecord, MalformedWord, Discarded, Blocked, CrcRefused, CrcWrong, TxFull, QueueFull, LineBusy, ResetRefused, CutShort, TxEmpty, RxFull, RxEmpty}
-use Rattle.state.specs.declared.Phase.{Phase}
 use Rattle.state.specs.declared.Phase.the-variants.{Collecting}
 use Rattle.state.specs.declared.Place.{Place}
 use Rattle.state.specs.declared.Store.{Store}
@@ -24,12 +23,25 @@ use Rattle.plan.specs.declared.Plan.{Plan}
 use Rattle.plan.specs.declared.Receive.the-variants.{LeaveRx}
 use Rattle.forwards.specs.declared.Wish.{Wish}
 use Rattle.forwards.specs.declared.Granted.{Granted}
+use Rattle.forwards.specs.declared.Fwd.{Fwd}
+use Rattle.forwards.specs.declared.Progress.{Progress}
 
 abbrev pub wish : Store → Bool → Place → Wish
 wish st release p = record { store = st; release = release; place = p }
 
 abbrev pub granted : Store → Deed → Note → Granted
 granted st d n = record { store = st; deed = d; note = n }
+
+abbrev pub fwd : Bool → ℕ → ℕ → Bool → Fwd
+fwd crc words ends reads = record { crc = crc; words = words; ends = ends; reads = reads }
+
+-- just after the command word
+abbrev pub justBegun : ℕ → Bool → Progress
+justBegun sum blocked = record { got = 0; crc = sum; mine = 0; released = false; blocked = blocked }
+
+-- "word counted"
+abbrev pub wordCounted : Progress → Progress
+wordCounted at = record { got = at .got + 1; crc = at .crc; mine = at .mine; released = at .released; blocked = at .blocked }
 
 unfoldable pub asksStore : Store → Bool
 asksStore Keep = false
@@ -88,10 +100,11 @@ clears ClearAll = true
 clears ResetAll = true
 
 -- a forward that goes on collecting, after what was granted of its word
-unfoldable pub forwarded : Bridge → Command → ℕ → ℕ → ℕ → Bool → Bool → Granted → Plan
-forwarded b command got crc mine released blocked g = record {
+unfoldable pub forwarded : Bridge → Fwd → Progress → Granted → Plan
+forwarded b f at g = record {
   phase =
-      Collecting command got crc (mineAfter (g .deed) (g .store) mine released) (enqueues (g .deed) || released) (clears (g .deed) || blocked);
+      Collecting (Forward (f .crc) (f .words) (f .ends) (f .reads)) (at .got) (at .crc)
+      (mineAfter (g .deed) (g .store) (at .mine) (at .released)) (enqueues (g .deed) || at .released) (clears (g .deed) || at .blocked);
   held = b .frame .held;
   control = faulted (b .control) (g .note);
   store = g .store;
@@ -103,19 +116,19 @@ forwarded b command got crc mine released blocked g = record {
 }
 
 -- "Release: .. when TX holds at least TXFFLVL + 1 words just after one of this frame's is stored, or when all data words have come"; once a frame
-abbrev pub releases : Bool → ℕ → ℕ → Bool → ℕ → ℕ → Bool
-releases crc words got released level count = not crc && not released && (leb (level + 1) count || eqb got words)
+abbrev pub releases : Fwd → Progress → ℕ → ℕ → Bool
+releases f at level count = not (f .crc) && not (at .released) && (leb (level + 1) count || eqb (at .got) (f .words))
 
--- a data word: the got-th, with which TX would hold one word more
-unfoldable pub forwardWord : Bridge → Command → Bool → ℕ → ℕ → Bool → ℕ → ℕ → ℕ → Bool → Bool → ℕ → Plan
-forwardWord b command crc words ends reads got sum mine released blocked w =
-    forwarded b command got sum mine released blocked
-    (guard blocked (b .sending .tx .count) (b .sending .queue .used)
-    (wish (Put w) (releases crc words got released (b .control .regs .txfflvl) (b .sending .tx .count + 1)) (newPlace words ends reads)))
+-- a data word, with which TX would hold one word more; `at` is before it, but for the CRC
+unfoldable pub forwardWord : Bridge → Fwd → Progress → ℕ → Plan
+forwardWord b f at w =
+    forwarded b f (wordCounted at)
+    (guard (at .blocked) (b .sending .tx .count) (b .sending .queue .used)
+    (wish (Put w) (releases f (wordCounted at) (b .control .regs .txfflvl) (b .sending .tx .count + 1)) (newPlace (f .words) (f .ends) (f .reads))))
 
 -- the command word: released at once where there are no data words and it is not named _CRC. "A command of no words and no ENDs queues nothing"
-unfoldable pub forwardBegun : Bridge → Command → Bool → ℕ → ℕ → Bool → ℕ → Bool → Plan
-forwardBegun b command crc words ends reads sum blocked =
-    forwarded b command 0 sum 0 false blocked
+unfoldable pub forwardBegun : Bridge → Fwd → ℕ → Bool → Plan
+forwardBegun b f sum blocked =
+    forwarded b f (justBegun sum blocked)
     (guard blocked (b .sending .tx .count) (b .sending .queue .used)
-    (wish Keep (not crc && eqb words 0 && ltb 0 ends) (newPlace words ends reads)))
+    (wish Keep (not (f .crc) && eqb (f .words) 0 && ltb 0 (f .ends)) (newPlace (f .words) (f .ends) (f .reads))))

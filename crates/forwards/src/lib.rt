@@ -35,6 +35,14 @@ pub struct Granted {
     pub note: Note,
 }
 
+// What a forward's command word says.
+pub struct Fwd {
+    pub crc: bool,
+    pub words: u16,
+    pub ends: u16,
+    pub reads: bool,
+}
+
 // How far an open frame has come: what `state::Phase::Collecting` keeps beside the command.
 pub struct Progress {
     pub got: u16,
@@ -162,9 +170,9 @@ fn clears(deed: Deed) -> bool
 }
 
 // A forward that goes on collecting, after what was granted of its word.
-fn forwarded(bridge: Bridge, command: Command, at: Progress, granted: Granted) -> Plan
+fn forwarded(bridge: Bridge, forward: Fwd, at: Progress, granted: Granted) -> Plan
     requires { ⌜ at .mine < 65535 ⌝ }
-    ensures { λ r. ⌜ r ≡ forwardedOf bridge command (at .got) (at .crc) (at .mine) (at .released) (at .blocked) granted ⌝ }
+    ensures { λ r. ⌜ r ≡ forwardedOf bridge forward at granted ⌝ }
 {
     let held = bridge.frame.held;
     let store = granted.store;
@@ -174,7 +182,12 @@ fn forwarded(bridge: Bridge, command: Command, at: Progress, granted: Granted) -
     let cleared = clears(deed);
     Plan {
         phase: Phase::Collecting {
-            command: command,
+            command: Command::Forward {
+                crc: forward.crc,
+                words: forward.words,
+                ends: forward.ends,
+                reads: forward.reads,
+            },
             got: at.got,
             crc: at.crc,
             mine: mine_after(deed, store, at.mine, at.released),
@@ -193,76 +206,48 @@ fn forwarded(bridge: Bridge, command: Command, at: Progress, granted: Granted) -
 }
 
 // TX holds more than its level just after the word, or all data words have come; once a frame.
-fn releases(crc: bool, words: u16, got: u16, released: bool, level: u16, count: u16) -> bool
-    ensures { λ r. ⌜ r ≡ releasesOf crc words got released level count ⌝ }
+fn releases(forward: Fwd, at: Progress, level: u16, count: u16) -> bool
+    ensures { λ r. ⌜ r ≡ releasesOf forward at level count ⌝ }
 {
     let exceeded = level < count;
-    let whole = got == words;
-    !crc & !released & (exceeded | whole)
+    let whole = at.got == forward.words;
+    !forward.crc & !at.released & (exceeded | whole)
 }
 
 // A data word of a forward: `at` is before it, but for the CRC.
-pub fn forward_word(
-    bridge: Bridge,
-    crc: bool,
-    words: u16,
-    ends: u16,
-    reads: bool,
-    at: Progress,
-    word: u16,
-) -> Plan
+pub fn forward_word(bridge: Bridge, forward: Fwd, at: Progress, word: u16) -> Plan
     requires { ⌜ (at .got < 65535) × (at .mine < 65535) × (bridge .sending .tx .count < 65535) ⌝ }
-    ensures { λ r. ⌜ r ≡ forwardWord bridge (Command.Forward crc words ends reads) crc words ends reads (at .got + 1) (at .crc) (at .mine) (at .released) (at .blocked) word ⌝ }
+    ensures { λ r. ⌜ r ≡ forwardWord bridge forward at word ⌝ }
 {
-    let next = at.got + 1;
+    let mut after = at;
+    after.got = at.got + 1;
     let count = bridge.sending.tx.count;
     let used = bridge.sending.queue.used;
     let level = bridge.control.regs.txfflvl;
     let wish = Wish {
         store: Store::Put(word),
-        release: releases(crc, words, next, at.released, level, count + 1),
-        place: queue::new_place(words, ends, reads),
+        release: releases(forward, after, level, count + 1),
+        place: queue::new_place(forward.words, forward.ends, forward.reads),
     };
     let granted = guard(at.blocked, count, used, wish);
-    let command = Command::Forward {
-        crc: crc,
-        words: words,
-        ends: ends,
-        reads: reads,
-    };
-    let mut after = at;
-    after.got = next;
-    forwarded(bridge, command, after, granted)
+    forwarded(bridge, forward, after, granted)
 }
 
 // The command word of a forward.
-pub fn forward_begun(
-    bridge: Bridge,
-    crc: bool,
-    words: u16,
-    ends: u16,
-    reads: bool,
-    sum: u16,
-) -> Plan
-    ensures { λ r. ⌜ r ≡ forwardBegun bridge (Command.Forward crc words ends reads) crc words ends reads sum (blocking (bridge .control .flags)) ⌝ }
+pub fn forward_begun(bridge: Bridge, forward: Fwd, sum: u16) -> Plan
+    ensures { λ r. ⌜ r ≡ forwardBegun bridge forward sum (blocking (bridge .control .flags)) ⌝ }
 {
     let blocked = registers::blocking(bridge.control.flags);
     let count = bridge.sending.tx.count;
     let used = bridge.sending.queue.used;
-    let wordless = words == 0;
-    let owes = 0 < ends;
+    let wordless = forward.words == 0;
+    let owes = 0 < forward.ends;
     let wish = Wish {
         store: Store::Keep,
-        release: !crc & wordless & owes,
-        place: queue::new_place(words, ends, reads),
+        release: !forward.crc & wordless & owes,
+        place: queue::new_place(forward.words, forward.ends, forward.reads),
     };
     let granted = guard(blocked, count, used, wish);
-    let command = Command::Forward {
-        crc: crc,
-        words: words,
-        ends: ends,
-        reads: reads,
-    };
     let at = Progress {
         got: 0,
         crc: sum,
@@ -270,5 +255,5 @@ pub fn forward_begun(
         released: false,
         blocked: blocked,
     };
-    forwarded(bridge, command, at, granted)
+    forwarded(bridge, forward, at, granted)
 }

@@ -1,13 +1,13 @@
 -- Arms of the command word, a data word and a host word, as the proofs of src/lib.rt ask them. Assumes nothing.
 use mathlib.Core.Path.{_≡_, sym, _∙_, ap}
-use mathlib.Core.Bool.{Bool}
 use Prim.Native.Nat.{ℕ}
 use Rattle.command.specs.Layouts.{ours}
 use Rattle.command.specs.declared.Command.{Command}
 use Rattle.state.specs.declared.Phase.{Phase}
 use Rattle.state.specs.declared.Phase.the-variants.{Idle}
 use Rattle.state.specs.declared.Bridge.{Bridge}
-use Rattle.host.specs.Frames.{collects, opened, dataWord, plannedIn, planned}
+use Rattle.forwards.specs.declared.Progress.{Progress}
+use Rattle.host.specs.Frames.{collects, opened, summed, dataWord, plannedIn, planned}
 use Rattle.plan.specs.declared.Plan.{Plan}
 
 -- an arm of the command word
@@ -19,13 +19,13 @@ pub to-collects : (b : Bridge) (command k : Command) (sum : ℕ) (x : Plan) → 
 to-collects b command k sum x h q e = rw (h, q) (rw h at e)
 
 -- an arm of a data word
-pub to-data : (b : Bridge) (command k : Command) (got sum mine : ℕ) (released blocked : Bool) (w : ℕ) (x : Plan) → command ≡ k
-    → x ≡ dataWord b k got sum mine released blocked w → x ≡ dataWord b command got sum mine released blocked w
-to-data b command k got sum mine released blocked w x h e = rw h e
+pub to-data : (b : Bridge) (command k : Command) (at : Progress) (w : ℕ) (x : Plan) → command ≡ k
+    → x ≡ dataWord b k at w → x ≡ dataWord b command at w
+to-data b command k at w x h e = rw h e
 
-pub told-data : (b : Bridge) (command : Command) (got sum crc mine : ℕ) (released blocked : Bool) (w : ℕ) (x : Plan) → sum ≡ ours .crcStep crc w
-    → x ≡ dataWord b command got sum mine released blocked w → x ≡ dataWord b command got (ours .crcStep crc w) mine released blocked w
-told-data b command got sum crc mine released blocked w x h e = rw h at e
+pub told-data : (b : Bridge) (command : Command) (sum : ℕ) (at : Progress) (w : ℕ) (x : Plan) → sum ≡ ours .crcStep (at .crc) w
+    → x ≡ dataWord b command (summed sum at) w → x ≡ dataWord b command (summed (ours .crcStep (at .crc) w) at) w
+told-data b command sum at w x h e = rw h at e
 
 -- an arm of a host word
 pub to-planned : (b : Bridge) (p : Phase) (w o : ℕ) (x : Plan) → b .frame .phase ≡ p → x ≡ plannedIn ours b p w o → x ≡ planned ours b w o

@@ -2,16 +2,14 @@
 ghost use mathlib.Core.Path.{_≡_};
 ghost use mathlib.Core.Bool.{true, false};
 ghost use Prim.Native.Nat.{_+_, _≤_, _<_};
-ghost use lib.Dec.{ltb, eqb};
-ghost use Rattle.base.specs.Pick.{pick};
 ghost use Rattle.command.specs.Layouts.{ours};
 ghost use Rattle.state.specs.Facts.{SendFit, HostFit};
 ghost use Rattle.state.specs.Frame.{dataWords, collectSound};
-ghost use Rattle.host.specs.Frames.{collects as collectsOf, opened as openedOf, dataWord, planned as plannedOf};
-ghost use Rattle.closing.specs.Closing.{crcDue};
+ghost use Rattle.host.specs.Frames.{collects as collectsOf, opened as openedOf, dataWord, collected as collectedOf, planned as plannedOf};
 use answers::answered;
 use closing::crc_due;
 use command::Command;
+use forwards::Fwd;
 use forwards::Progress;
 use forwards::forward_begun;
 use forwards::forward_word;
@@ -48,7 +46,16 @@ fn opened(bridge: Bridge, command: Command, sum: u16) -> Plan
             words,
             ends,
             reads,
-        } => forward_begun(bridge, crc, words, ends, reads, sum),
+        } => forward_begun(
+            bridge,
+            Fwd {
+                crc: crc,
+                words: words,
+                ends: ends,
+                reads: reads,
+            },
+            sum,
+        ),
         Command::DataRead { crc: _, words: _ } => collects(bridge, command, sum),
         Command::RegisterWrite {
             crc: _,
@@ -74,7 +81,7 @@ fn register_data(
     word: u16,
 ) -> Plan
     requires { ⌜ address + at .got < 11 ⌝ }
-    ensures { λ r. ⌜ r ≡ dataWord bridge (Command.RegisterWrite crc address count) (at .got) (at .crc) (at .mine) (at .released) (at .blocked) word ⌝ }
+    ensures { λ r. ⌜ r ≡ dataWord bridge (Command.RegisterWrite crc address count) at word ⌝ }
 {
     let got = at.got;
     let phase = Phase::Collecting {
@@ -95,7 +102,7 @@ fn register_data(
 // A data word; only forwards and register writes have them.
 fn data_word(bridge: Bridge, command: Command, at: Progress, word: u16) -> Plan
     requires { ⌜ (SendFit (bridge .sending)) × (at .mine ≤ bridge .sending .tx .count) × (collectSound command (at .got) (at .mine) (at .released) (at .blocked) ≡ true) × (at .got < dataWords command) ⌝ }
-    ensures { λ r. ⌜ r ≡ dataWord bridge command (at .got) (at .crc) (at .mine) (at .released) (at .blocked) word ⌝ }
+    ensures { λ r. ⌜ r ≡ dataWord bridge command at word ⌝ }
 {
     match command {
         Command::Filler => plain(bridge, Phase::Idle, Note::Done),
@@ -105,7 +112,17 @@ fn data_word(bridge: Bridge, command: Command, at: Progress, word: u16) -> Plan
             words,
             ends,
             reads,
-        } => forward_word(bridge, crc, words, ends, reads, at, word),
+        } => forward_word(
+            bridge,
+            Fwd {
+                crc: crc,
+                words: words,
+                ends: ends,
+                reads: reads,
+            },
+            at,
+            word,
+        ),
         Command::DataRead { crc: _, words: _ } => plain(bridge, Phase::Idle, Note::Done),
         Command::RegisterWrite {
             crc,
@@ -124,7 +141,7 @@ fn data_word(bridge: Bridge, command: Command, at: Progress, word: u16) -> Plan
 // A data word or the CRC word.
 fn collected(bridge: Bridge, command: Command, at: Progress, word: u16) -> Plan
     requires { ⌜ (SendFit (bridge .sending)) × (at .mine ≤ bridge .sending .tx .count) × (collectSound command (at .got) (at .mine) (at .released) (at .blocked) ≡ true) ⌝ }
-    ensures { λ r. ⌜ r ≡ pick (ltb (at .got) (dataWords command)) (dataWord bridge command (at .got) (ours .crcStep (at .crc) word) (at .mine) (at .released) (at .blocked) word) (crcDue ours bridge command (at .mine) (at .blocked) (eqb word (at .crc))) ⌝ }
+    ensures { λ r. ⌜ r ≡ collectedOf ours bridge command at word ⌝ }
 {
     if state::is_due(command, at.got) {
         let crc = crc16::crc_word(at.crc, word);

@@ -15,6 +15,7 @@ use Rattle.closing.specs.Closing.{wrongCrc, forwardClosed, registersClosed, rea
 use Rattle.release.specs.Release.{cutDeed, cut}
 use Rattle.answers.specs.Answers.{answerWith, dataAnswered, registerAnswered, answered}
 use Rattle.forwards.specs.declared.Granted.{Granted}
+use Rattle.forwards.specs.declared.Progress.{Progress}
 use Rattle.plan.specs.declared.Plan.{Plan}
 use Rattle.forwards.specs.declared.Wish.{Wish}
 use Rattle.state.specs.Facts.{HostFit, Doable}
@@ -57,17 +58,16 @@ module _ (b : Bridge) where
   opened-doable (RegisterRead crc address count) sum = tt
   opened-doable SoftReset sum = tt
 
-  data-word-doable : (c : Command) (got sum mine : ℕ) (released blocked : Bool) (w : ℕ)
-      → Plans (b .sending) (dataWord b c got sum mine released blocked w)
+  data-word-doable : (c : Command) (at : Progress) (w : ℕ) → Plans (b .sending) (dataWord b c at w)
   unfolding dataWord forwardWord forwarded registerWord heldWord
-  data-word-doable Filler got sum mine released blocked w = tt
-  data-word-doable Malformed got sum mine released blocked w = tt
-  data-word-doable (Forward crc words ends reads) got sum mine released blocked w = guard-doable (b .sending) _ _ _
-  data-word-doable (DataRead crc words) got sum mine released blocked w = tt
-  data-word-doable (RegisterWrite crc address count) got sum mine released blocked w =
+  data-word-doable Filler at w = tt
+  data-word-doable Malformed at w = tt
+  data-word-doable (Forward crc words ends reads) at w = guard-doable (b .sending) _ _ _
+  data-word-doable (DataRead crc words) at w = tt
+  data-word-doable (RegisterWrite crc address count) at w =
       pick-keeps (Plans (b .sending)) _ _ _ (λ h. tt) (λ h. clears-doable _ _)
-  data-word-doable (RegisterRead crc address count) got sum mine released blocked w = tt
-  data-word-doable SoftReset got sum mine released blocked w = tt
+  data-word-doable (RegisterRead crc address count) at w = tt
+  data-word-doable SoftReset at w = tt
 
   wrong-doable : (crc : Bool) (mine : ℕ) → mine ≤ b .sending .tx .count → Plans (b .sending) (wrongCrc b crc mine)
   unfolding wrongCrc stored ringAfter
@@ -115,7 +115,7 @@ module _ (b : Bridge) where
   unfolding plannedIn mineOf
   planned-in-doable l Idle w x h = opened-doable _ _
   planned-in-doable l (Collecting command got sum mine released blocked) w x h =
-      pick-keeps (Plans (b .sending)) _ _ _ (λ k. data-word-doable command _ _ _ _ _ _) (λ k. crc-due-doable l command _ _ _ h)
+      pick-keeps (Plans (b .sending)) _ _ _ (λ k. data-word-doable command _ _) (λ k. crc-due-doable l command _ _ _ h)
   planned-in-doable l (Answering reply sum) w x h = answered-doable l reply sum x
   planned-in-doable l Discarding w x h = tt
 

@@ -11,6 +11,7 @@ use Rattle.command.specs.Layouts.{Layout}
 use Rattle.command.specs.declared.Command.{Command}
 use Rattle.command.specs.declared.Command.the-variants.{Filler, Malformed, Forward, DataRead, RegisterWrite, RegisterRead, SoftReset}
 use Rattle.forwards.specs.Forward.{faulted, forwarded, forwardWord, forwardBegun}
+use Rattle.forwards.specs.declared.Progress.{Progress}
 use Rattle.host.specs.Frames.{collects, opened, dataWord, plannedIn, planned}
 use Rattle.release.specs.Release.{releasedIn}
 use Rattle.writes.specs.Writes.{effected, withWrite, writeAll, noEffects, heldWord, registerWord}
@@ -251,31 +252,33 @@ module _ (b : Bridge) (g : regsSound (b .control .regs) ≡ true) where
         fits = rw (le-leb (got + 1) count (omega arith), m, n, z, k);
       }
 
-  data-word-rules : (c : Command) (got sum mine : ℕ) (released blocked : Bool) (w : ℕ) → SendRules (b .sending) (owedBy c got released blocked) mine
-      → collectSound c got mine released blocked ≡ true → got < dataWords c → PlanRules b (dataWord b c got sum mine released blocked w)
+  data-word-rules : (c : Command) (at : Progress) (w : ℕ) → SendRules (b .sending) (owedBy c (at .got) (at .released) (at .blocked)) (at .mine)
+      → collectSound c (at .got) (at .mine) (at .released) (at .blocked) ≡ true → at .got < dataWords c → PlanRules b (dataWord b c at w)
   unfolding dataWord forwardWord forwarded
-  data-word-rules Filler got sum mine released blocked w r s h = absurd (omega arith)
-  data-word-rules Malformed got sum mine released blocked w r s h = absurd (omega arith)
-  data-word-rules (Forward crc words ends reads) got sum mine released blocked w r s h =
+  data-word-rules Filler at w r s h = absurd (omega arith)
+  data-word-rules Malformed at w r s h = absurd (omega arith)
+  data-word-rules (Forward crc words ends reads) at w r s h =
       let full : Bool = leb (b .control .regs .txfflvl + 1) (b .sending .tx .count + 1) in
       record {
         leaves =
-            word-goes (b .sending) crc words ends reads got sum mine w blocked released (not crc && not released && (full || eqb (got + 1) words)) r
-            (forward-facts crc words ends got mine released blocked (unfold collectSound in s))
+            word-goes (b .sending) crc words ends reads (at .got) (at .crc) (at .mine) w (at .blocked) (at .released)
+            (not crc && not (at .released) && (full || eqb (at .got + 1) words)) r
+            (forward-facts crc words ends (at .got) (at .mine) (at .released) (at .blocked) (unfold collectSound in s))
             h
-            (λ t. (not-true crc (search (and-l, and-r)), not-true released (search (and-l, and-r))))
-            (λ t k. unreleasing crc released full (got + 1) words (omega arith) t k);
+            (λ t. (not-true crc (search (and-l, and-r)), not-true (at .released) (search (and-l, and-r))))
+            (λ t k. unreleasing crc (at .released) full (at .got + 1) words (omega arith) t k);
         regs = rw (faulted-regs (b .control)) g;
         ending = λ e. cc;
       }
-  data-word-rules (DataRead crc words) got sum mine released blocked w r s h = absurd (omega arith)
-  data-word-rules (RegisterWrite crc address count) got sum mine released blocked w r s h =
-      let m : eqb mine 0 ≡ true = unfold collectSound in search (and-l, and-r) in
-      let n : not released ≡ true = unfold collectSound in search (and-l, and-r) in
-      register-word-rules crc address got _ w (rules-none (b .sending) _ _ r (unreleased-owes-none _ _ _ _ (not-true released n)) (eqb-true mine 0 m))
-      (bare-write crc address count got sum mine released blocked h s)
-  data-word-rules (RegisterRead crc address count) got sum mine released blocked w r s h = absurd (omega arith)
-  data-word-rules SoftReset got sum mine released blocked w r s h = absurd (omega arith)
+  data-word-rules (DataRead crc words) at w r s h = absurd (omega arith)
+  data-word-rules (RegisterWrite crc address count) at w r s h =
+      let m : eqb (at .mine) 0 ≡ true = unfold collectSound in search (and-l, and-r) in
+      let n : not (at .released) ≡ true = unfold collectSound in search (and-l, and-r) in
+      register-word-rules crc address (at .got) _ w
+      (rules-none (b .sending) _ _ r (unreleased-owes-none _ _ _ _ (not-true (at .released) n)) (eqb-true (at .mine) 0 m))
+      (bare-write crc address count (at .got) (at .crc) (at .mine) (at .released) (at .blocked) h s)
+  data-word-rules (RegisterRead crc address count) at w r s h = absurd (omega arith)
+  data-word-rules SoftReset at w r s h = absurd (omega arith)
 
   -- 5. The rules of a CRC word.
   wrong-rules : (crc : Bool) (mine : ℕ) → SendRules (b .sending) 0 mine → (crc ≡ false → mine ≡ 0) → PlanRules b (wrongCrc b crc mine)
@@ -386,7 +389,7 @@ module _ (b : Bridge) (g : regsSound (b .control .regs) ≡ true) where
   unfolding plannedIn toCome mineOf phaseSound
   planned-rules l f Idle w x r s = opened-rules (l .decode w) _ (f w) r
   planned-rules l f (Collecting command got sum mine released blocked) w x r s =
-      pick-keeps (PlanRules b) _ _ _ (λ h. data-word-rules command got _ mine released blocked w r s (ltb-true _ _ h))
+      pick-keeps (PlanRules b) _ _ _ (λ h. data-word-rules command _ w r s (ltb-true _ _ h))
       (λ h. crc-due-rules l command got mine released blocked _ r s (ltb-false _ _ h))
   planned-rules l f (Answering reply sum) w x r s = answered-rules l reply sum x r s
   planned-rules l f Discarding w x r s = record { leaves = stays (b .sending) Discarding r bare-discarding; regs = g; ending = λ e. cc }

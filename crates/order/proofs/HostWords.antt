@@ -22,12 +22,13 @@ use Rattle.state.specs.declared.Reply.{Reply}
 use Rattle.state.specs.declared.Reply.the-variants.{Status, Data, Registers, Check}
 use Rattle.state.specs.declared.Store.{Store}
 use Rattle.state.specs.declared.Store.the-variants.{Keep, Put}
-use Rattle.forwards.specs.Forward.{asksStore, granted, guard, clears, forwarded, forwardWord, forwardBegun}
+use Rattle.forwards.specs.Forward.{fwd, justBegun, wordCounted, asksStore, granted, guard, clears, forwarded, forwardWord, forwardBegun}
 use Rattle.host.specs.Frames.{opened, dataWord, plannedIn}
 use Rattle.writes.specs.Writes.{heldWord, registerWord}
 use Rattle.closing.specs.Closing.{wrongCrc, forwardClosed, registersClosed, readClosed, resetClosed, crcDue}
 use Rattle.answers.specs.Answers.{answerWith, dataAnswered, registerAnswered, answered}
 use Rattle.forwards.specs.declared.Granted.{Granted}
+use Rattle.forwards.specs.declared.Progress.{Progress}
 use Rattle.plan.specs.declared.Plan.{Plan}
 use Rattle.forwards.specs.declared.Wish.{Wish}
 use Rattle.order.specs.Accepted.{Log, came, accepts, collects, joined, settle}
@@ -165,7 +166,7 @@ module _ (l : Layout) (b : Bridge) (g : Log) (hs : List ℕ) where
   opened-word before w s h k Filler f sum = idles k _ false refl
   opened-word before w s h k Malformed f sum = discards k
   opened-word before w s h k (Forward crc most ends reads) f sum =
-      guarded (λ (r : Granted). Good (forwarded b (Forward crc most ends reads) 0 sum 0 false (blocking (b .control .flags)) r)) _ _ _ _
+      guarded (λ (r : Granted). Good (forwarded b (fwd crc most ends reads) (justBegun sum (blocking (b .control .flags))) r)) _ _ _ _
       (λ d n t. begun before w s h crc most ends reads f sum _ _ _ d) (λ d n t. begun before w s h crc most ends reads f sum _ _ _ d)
   opened-word before w s h k (DataRead crc words) f sum = goes k _ _ _ _ _ _ _ refl (λ i xs p. p)
   opened-word before w s h k (RegisterWrite crc address count) f sum = goes k _ _ _ _ _ _ _ refl (λ i xs p. p)
@@ -175,6 +176,9 @@ module _ (l : Layout) (b : Bridge) (g : Log) (hs : List ℕ) where
 -- A word in a forward, hs before it.
 module _ (l : Layout) (b : Bridge) (g : Log) (hs : List ℕ) (w : ℕ) (crc : Bool) (most ends : ℕ) (reads : Bool) (got : ℕ) (blocked : Bool)
     (h : Open l crc most ends reads got blocked g hs) where
+  abbrev so-far : ℕ → ℕ → Bool → Progress
+  so-far sum mine released = record { got = got; crc = sum; mine = mine; released = released; blocked = blocked }
+
   module _ (d : got < most) where
     dropped-word : (sum mine : ℕ) (released now : Bool) (deed : Deed) → now ≡ true
         → After l g (hs ++ (w ∷ [])) (Collecting (Forward crc most ends reads) (got + 1) sum mine released now) Keep deed false
@@ -216,12 +220,11 @@ module _ (l : Layout) (b : Bridge) (g : Log) (hs : List ℕ) (w : ℕ) (crc : Bo
           ends = λ k. never false k refl;
         }
 
-    forward-word : (sum mine : ℕ) (released : Bool)
-        → AfterBy l g (hs ++ (w ∷ [])) (forwardWord b (Forward crc most ends reads) crc most ends reads (got + 1) sum mine released blocked w)
+    forward-word : (sum mine : ℕ) (released : Bool) → AfterBy l g (hs ++ (w ∷ [])) (forwardWord b (fwd crc most ends reads) (so-far sum mine released) w)
     unfolding forwardWord forwarded asksStore
     forward-word sum mine released =
         guarded
-        (λ (r : Granted). AfterBy l g (hs ++ (w ∷ [])) (forwarded b (Forward crc most ends reads) (got + 1) sum mine released blocked r))
+        (λ (r : Granted). AfterBy l g (hs ++ (w ∷ [])) (forwarded b (fwd crc most ends reads) (wordCounted (so-far sum mine released)) r))
         _ _ _ _ (λ deed n t. dropped-word sum _ _ _ deed t) (λ deed n t. stored-word (unblocked blocked t) sum _ _ _ deed)
 
   -- the CRC word
@@ -243,20 +246,20 @@ module _ (l : Layout) (b : Bridge) (g : Log) (hs : List ℕ) (w : ℕ) where
   abbrev sent : List ℕ
   sent = hs ++ (w ∷ [])
 
-  data-word : (command : Command) (got sum mine : ℕ) (released blocked : Bool) → got < dataWords command → InFrame l command got blocked g hs
-      → AfterBy l g sent (dataWord b command got sum mine released blocked w)
+  data-word : (command : Command) (at : Progress) → at .got < dataWords command → InFrame l command (at .got) (at .blocked) g hs
+      → AfterBy l g sent (dataWord b command at w)
   unfolding dataWord InFrame registerWord heldWord accepts
-  data-word Filler got sum mine released blocked d h = idles l b g sent (shut-more l g hs _ h) _ false refl
-  data-word Malformed got sum mine released blocked d h = idles l b g sent (shut-more l g hs _ h) _ false refl
-  data-word (Forward crc most ends reads) got sum mine released blocked d h =
-      forward-word l b g hs w crc most ends reads got blocked h d sum mine released
-  data-word (DataRead crc words) got sum mine released blocked d h = idles l b g sent (shut-more l g hs _ h) _ false refl
-  data-word (RegisterWrite crc address count) got sum mine released blocked d h =
+  data-word Filler at d h = idles l b g sent (shut-more l g hs _ h) _ false refl
+  data-word Malformed at d h = idles l b g sent (shut-more l g hs _ h) _ false refl
+  data-word (Forward crc most ends reads) at d h =
+      forward-word l b g hs w crc most ends reads (at .got) (at .blocked) h d (at .crc) (at .mine) (at .released)
+  data-word (DataRead crc words) at d h = idles l b g sent (shut-more l g hs _ h) _ false refl
+  data-word (RegisterWrite crc address count) at d h =
       let k : Shut l g sent = shut-more l g hs _ h in
       pick-keeps (AfterBy l g sent) _ _ _ (λ t. goes l b g sent k _ _ _ _ _ _ _ refl (λ i xs p. p))
       (λ t. goes l b g sent k _ _ _ _ _ _ _ (effects l b g sent k _) (λ i xs p. p))
-  data-word (RegisterRead crc address count) got sum mine released blocked d h = idles l b g sent (shut-more l g hs _ h) _ false refl
-  data-word SoftReset got sum mine released blocked d h = idles l b g sent (shut-more l g hs _ h) _ false refl
+  data-word (RegisterRead crc address count) at d h = idles l b g sent (shut-more l g hs _ h) _ false refl
+  data-word SoftReset at d h = idles l b g sent (shut-more l g hs _ h) _ false refl
 
   crc-due : (command : Command) (got mine : ℕ) (blocked right : Bool) → InFrame l command got blocked g hs
       → AfterBy l g sent (crcDue l b command mine blocked right)
@@ -281,7 +284,7 @@ module _ (l : Layout) (b : Bridge) (g : Log) (hs : List ℕ) (w : ℕ) where
   unfolding plannedIn Stands
   word-after Idle x h = opened-word l b g sent hs w refl h (shut-more l g hs _ h) (l .decode w) refl _
   word-after (Collecting command got sum mine released blocked) x h =
-      pick-keeps (AfterBy l g sent) _ _ _ (λ t. data-word command got _ mine released blocked (ltb-true _ _ t) h)
+      pick-keeps (AfterBy l g sent) _ _ _ (λ t. data-word command _ (ltb-true _ _ t) h)
       (λ t. crc-due command got mine blocked _ h)
   word-after (Answering reply sum) x h = answered-word l b g sent (shut-more l g hs _ h) reply sum x
   word-after Discarding x h = discards l b g sent (shut-more l g hs _ h)

@@ -24,7 +24,7 @@ use Rattle.state.specs.declared.Reply.{Reply}
 use Rattle.state.specs.declared.Reply.the-variants.{Status, Data, Registers, Check}
 use Rattle.state.specs.declared.Sending.{Sending}
 use Rattle.state.specs.declared.Store.the-variants.{Keep, Put}
-use Rattle.forwards.specs.Forward.{asksStore, clears, enqueues, mineAfter, faulted, forwarded, releases, forwardWord, forwardBegun}
+use Rattle.forwards.specs.Forward.{fwd, justBegun, wordCounted, asksStore, clears, enqueues, mineAfter, faulted, forwarded, releases, forwardWord, forwardBegun}
 use Rattle.host.specs.Frames.{opened, dataWord, plannedIn, planned}
 use Rattle.release.specs.Release.{releasedIn}
 use Rattle.writes.specs.Writes.{heldWord, registerWord}
@@ -32,6 +32,7 @@ use Rattle.closing.specs.Closing.{closed, wrongCrc, forwardClosed, registersClo
 use Rattle.release.specs.Release.{cutDeed, cut}
 use Rattle.answers.specs.Answers.{answerWith, dataAnswered, registerAnswered, answered}
 use Rattle.forwards.specs.declared.Granted.{Granted}
+use Rattle.forwards.specs.declared.Progress.{Progress}
 use Rattle.plan.specs.declared.Plan.{Plan}
 use Rattle.plan.specs.declared.Receive.the-variants.{LeaveRx}
 use Rattle.bridge.specs.Runs.{faults, AllSent}
@@ -106,10 +107,10 @@ module _ (b : Bridge) (g : Log) (S K : List ℕ) (spent : Spent b S K) where
 
     -- The command word.
     forward-begun : (crc : Bool) (k ends : ℕ) (reads : Bool) (sum : ℕ) (blocked : Bool) → blocked ≡ false
-        → Good b g S K (forwardBegun b (Forward crc k ends reads) crc k ends reads sum blocked)
+        → Good b g S K (forwardBegun b (fwd crc k ends reads) sum blocked)
     unfolding forwardBegun forwarded mineAfter enqueues clears asksStore pick
     forward-begun crc k ends reads sum blocked c a =
-        guard-grants (λ (r : Granted). GoesBy (b .sending) g S K (forwarded b (Forward crc k ends reads) 0 sum 0 false blocked r)) _ _ Keep _ _ blocked c
+        guard-grants (λ (r : Granted). GoesBy (b .sending) g S K (forwarded b (fwd crc k ends reads) (justBegun sum blocked) r)) _ _ Keep _ _ blocked c
         (λ room t u. begun-queued (b .sending) g S K crc k ends reads sum blocked c h u (not-true crc (and-l (not crc) _ (and-l _ (ltb 0 ends) t))))
         (λ room t. begun-pending (b .sending) g S K crc k ends reads sum blocked c h) (a .no-fault)
 
@@ -125,12 +126,15 @@ module _ (b : Bridge) (g : Log) (S K : List ℕ) (spent : Spent b S K) where
 
   -- The words of a forward.
   module _ (crc : Bool) (words ends : ℕ) (reads : Bool) (got sum mine w : ℕ) (small : w < 65536) (due : got < words) where
+    abbrev so-far : Bool → Bool → Progress
+    so-far released blocked = record { got = got; crc = sum; mine = mine; released = released; blocked = blocked }
+
     pending-word : (blocked : Bool) → blocked ≡ false → Pending crc words got mine g S K
-        → Good b g S K (forwardWord b (Forward crc words ends reads) crc words ends reads (got + 1) sum mine false blocked w)
+        → Good b g S K (forwardWord b (fwd crc words ends reads) (so-far false blocked) w)
     unfolding forwardWord forwarded mineAfter enqueues clears asksStore pick
     pending-word blocked c h a =
         guard-grants
-        (λ (r : Granted). GoesBy (b .sending) g S K (forwarded b (Forward crc words ends reads) (got + 1) sum mine false blocked r)) _ _
+        (λ (r : Granted). GoesBy (b .sending) g S K (forwarded b (fwd crc words ends reads) (wordCounted (so-far false blocked)) r)) _ _
         (Put w) _ _ blocked c
         (λ room t u.
         word-queued (b .sending) g S K crc words ends reads sum blocked c got w small (room refl) due mine h u
@@ -138,24 +142,25 @@ module _ (b : Bridge) (g : Log) (S K : List ℕ) (spent : Spent b S K) where
         (λ room t. word-pending (b .sending) g S K crc words ends reads sum blocked c got w small (room refl) due mine h (later crc t))
         (a .no-fault)
       where
-        later : (crc : Bool) → releases crc words (got + 1) false (b .control .regs .txfflvl) (b .sending .tx .count + 1) ≡ false
+        later : (crc : Bool)
+            → releases (fwd crc words ends reads) (wordCounted (so-far false blocked)) (b .control .regs .txfflvl) (b .sending .tx .count + 1) ≡ false
             → crc ≡ false → got + 1 ≡ words → words ≡ 0
         later true t f e = never true refl f
         later false t f e =
             absurd (eqb-false (got + 1) words (or-r (leb (b .control .regs .txfflvl + 1) (b .sending .tx .count + 1)) _ t) e)
 
     released-word : (blocked : Bool) → blocked ≡ false → Released crc words got g S K
-        → Good b g S K (forwardWord b (Forward crc words ends reads) crc words ends reads (got + 1) sum mine true blocked w)
+        → Good b g S K (forwardWord b (fwd crc words ends reads) (so-far true blocked) w)
     unfolding forwardWord forwarded mineAfter enqueues clears asksStore pick
     released-word blocked c h a =
         guard-grants
-        (λ (r : Granted). GoesBy (b .sending) g S K (forwarded b (Forward crc words ends reads) (got + 1) sum mine true blocked r)) _ _
+        (λ (r : Granted). GoesBy (b .sending) g S K (forwarded b (fwd crc words ends reads) (wordCounted (so-far true blocked)) r)) _ _
         (Put w) _ _ blocked c
         (λ room t u. never false (and-r (not crc) false (and-l (not crc && false) _ t)) refl)
         (λ room t. word-released (b .sending) g S K crc words ends reads sum blocked c got w small (room refl) due mine h) (a .no-fault)
 
     forward-word : (released blocked : Bool) → Open crc words got mine released g S K → blocked ≡ false
-        → Good b g S K (forwardWord b (Forward crc words ends reads) crc words ends reads (got + 1) sum mine released blocked w)
+        → Good b g S K (forwardWord b (fwd crc words ends reads) (so-far released blocked) w)
     unfolding Open
     forward-word true blocked h c = released-word blocked c h
     forward-word false blocked h c = pending-word blocked c h
@@ -213,14 +218,14 @@ module _ (b : Bridge) (g : Log) (S K : List ℕ) (spent : Spent b S K) where
         pick-keeps (Good b g S K) _ _ _ (λ t. pending-right blocked c h) (λ t. pending-wrong h)
 
   -- A word in a frame, while data words are due and after.
-  module _ (got sum mine : ℕ) (released blocked : Bool) where
-    data-word : (command : Command) (w : ℕ) → w < 65536 → got < dataWords command → InFrame command got mine released blocked g S K
-        → Good b g S K (dataWord b command got sum mine released blocked w)
+  module _ (at : Progress) where
+    data-word : (command : Command) (w : ℕ) → w < 65536 → at .got < dataWords command
+        → InFrame command (at .got) (at .mine) (at .released) (at .blocked) g S K → Good b g S K (dataWord b command at w)
     unfolding dataWord InFrame registerWord heldWord Kept
     data-word Filler w small due h k = quiet (h .0) Idle rests-idle
     data-word Malformed w small due h k = quiet (h .0) Idle rests-idle
     data-word (Forward crc words ends reads) w small due h k =
-        forward-word crc words ends reads got sum mine w small due released blocked (h .0) (h .1) k
+        forward-word crc words ends reads (at .got) (at .crc) (at .mine) w small due (at .released) (at .blocked) (h .0) (h .1) k
     data-word (DataRead crc words) w small due h k = quiet (h .0) Idle rests-idle
     data-word (RegisterWrite crc address count) w small due h k =
         pick-keeps (Good b g S K) _ _ _ (λ t j. quiet (h .0) _ (λ i X Y p. (p, h .1)))
@@ -228,6 +233,7 @@ module _ (b : Bridge) (g : Log) (S K : List ℕ) (spent : Spent b S K) where
     data-word (RegisterRead crc address count) w small due h k = quiet (h .0) Idle rests-idle
     data-word SoftReset w small due h k = quiet (h .0) Idle rests-idle
 
+  module _ (got mine : ℕ) (released blocked : Bool) where
     crc-due : (l : Layout) (command : Command) (right : Bool) → Reach → dataWords command ≤ got
         → InFrame command got mine released blocked g S K → Good b g S K (crcDue l b command mine blocked right)
     unfolding crcDue InFrame
@@ -247,8 +253,8 @@ module _ (b : Bridge) (g : Log) (S K : List ℕ) (spent : Spent b S K) where
   unfolding plannedIn Kept
   planned-in l Idle w x small reach f h k = begins h (l .decode w) _ f k
   planned-in l (Collecting command got sum mine released blocked) w x small reach f h k =
-      pick-keeps (Good b g S K) _ _ _ (λ t. data-word got _ mine released blocked command w small (ltb-true _ _ t) h)
-      (λ t. crc-due got sum mine released blocked l command _ reach (ltb-false _ _ t) h) k
+      pick-keeps (Good b g S K) _ _ _ (λ t. data-word _ command w small (ltb-true _ _ t) h)
+      (λ t. crc-due got mine released blocked l command _ reach (ltb-false _ _ t) h) k
   planned-in l (Answering reply sum) w x small reach f h k = answers h l reply sum x k
   planned-in l Discarding w x small reach f h k = quiet h Discarding rests-discarding
 
