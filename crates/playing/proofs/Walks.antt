@@ -67,30 +67,34 @@ module _ (head cells : List ℕ) (t : Bool) (b : Bridge) (o : t ≡ isHead head)
   unfolding begin
   to-no-room p h r e = pick-denied t _ _ _ _ o h (pick-not-le 11 (length cells) _ _ _ r (made-begun 0 false p cells e))
 
+-- where the records before one ended
+abbrev from : Bridge → List ℕ → List ℕ → List ℕ → ℕ → End
+from b tx rx cells at = end (partOf b at true) tx rx cells
+
 -- one record
 module _ (b : Bridge) (tx rx : List ℕ) (kind value : ℕ) (cells : List ℕ) (at : ℕ) (r : Record) (k : r ≡ recordOf kind value) where
   pub to-stop : (p : Part) (c : List ℕ) → r ≡ Bad → p ≡ partOf b (at + 11) false → c ≡ sets cells at (bytesOf badRecord)
-      → end p tx rx c ≡ oneOf ours b tx rx kind value cells at
+      → end p tx rx c ≡ oneOf ours (from b tx rx cells at) kind value
   unfolding oneOf judged
   to-stop p c h e f =
       ap₂ (λ (x : Part) (y : List ℕ). end x tx rx y) e f
-      ∙ ap (λ (x : Record). judged x (λ (v : Event). lineAt kind value (step ours b tx rx v) cells at) (stopAt b tx rx cells at)) (sym h ∙ k)
+      ∙ ap (λ (x : Record). judged x (λ (v : Event). lineAt kind value (step ours b tx rx v) (from b tx rx cells at)) (stopAt (from b tx rx cells at))) (sym h ∙ k)
 
   pub to-one : (e : Event) (a : Answer) (t s : List ℕ) (n : ℕ) (line : Line) (c : List ℕ) (x : ℕ) (p : Part) → r ≡ Good e → out a t s ≡ step ours b tx rx e
       → n ≡ noteNumber (a .note) → line ≡ lineOf kind value n (a .sdo) (a .sout) → c ≡ sets cells at (bytesOf line)
-      → x ≡ at + line .length → p ≡ partOf (a .state) x true → end p t s c ≡ oneOf ours b tx rx kind value cells at
+      → x ≡ at + line .length → p ≡ partOf (a .state) x true → end p t s c ≡ oneOf ours (from b tx rx cells at) kind value
   unfolding oneOf judged
   to-one e a t s n line c x p h u m i f z q =
       let j : line ≡ lineFor kind value a = i ∙ ap (λ (x : ℕ). lineOf kind value x (a .sdo) (a .sout)) m in
       ap₂ (λ (x : Part) (y : List ℕ). end x t s y) (q ∙ ap (λ (y : ℕ). partOf (a .state) y true) z) f
       ∙ ap (λ (x : Line). end (partOf (a .state) (at + x .length) true) t s (sets cells at (bytesOf x))) j
-      ∙ ap (λ (x : Out). lineAt kind value x cells at) u
-      ∙ ap (λ (x : Record). judged x (λ (v : Event). lineAt kind value (step ours b tx rx v) cells at) (stopAt b tx rx cells at)) (sym h ∙ k)
+      ∙ ap (λ (x : Out). lineAt kind value x (from b tx rx cells at)) u
+      ∙ ap (λ (x : Record). judged x (λ (v : Event). lineAt kind value (step ours b tx rx v) (from b tx rx cells at)) (stopAt (from b tx rx cells at))) (sym h ∙ k)
 
 -- a record, and the rest played after it
 module _ (b : Bridge) (tx rx : List ℕ) (kind value : ℕ) (rest cells : List ℕ) (at : ℕ) where
   abbrev oneBy : Record → End
-  oneBy r = judged r (λ (e : Event). lineAt kind value (step ours b tx rx e) cells at) (stopAt b tx rx cells at)
+  oneBy r = judged r (λ (e : Event). lineAt kind value (step ours b tx rx e) (from b tx rx cells at)) (stopAt (from b tx rx cells at))
 
   abbrev playedBy : Record → Played
   playedBy r =
@@ -160,7 +164,7 @@ module _ (b₀ : Bridge) (tx₀ rx₀ records cells₀ : List ℕ) (b : Bridge) 
       ∙ ap (λ (x : List ℕ). shownAt (played ours b tx rx x) cells at) (sym (drop-of-length-le records h)) ∙ v .whole ∙ all-shown
 
   module _ (h : i + 3 ≤ length records) (value : ℕ) (w : value ≡ valueOf (getD records (i + 1) 0) (getD records (i + 2) 0)) (p : Part)
-      (t r c : List ℕ) (e : end p t r c ≡ oneOf ours b tx rx (getD records i 0) value cells at) where
+      (t r c : List ℕ) (e : end p t r c ≡ oneOf ours (from b tx rx cells at) (getD records i 0) value) where
     abbrev kind : ℕ
     kind = getD records i 0
 
@@ -180,8 +184,8 @@ module _ (b₀ : Bridge) (tx₀ rx₀ records cells₀ : List ℕ) (b : Bridge) 
         ∙ ap (λ (x : List ℕ). kind ∷ high ∷ x) (ap (λ (j : ℕ). drop j records) n ∙ drop-cons records (i + 2) 0 (omega arith))
         ∙ ap (λ (j : ℕ). kind ∷ high ∷ low ∷ drop j records) o
 
-    one-read : end p t r c ≡ oneOf ours b tx rx kind (valueOf high low) cells at
-    one-read = subst (λ (x : ℕ). end p t r c ≡ oneOf ours b tx rx kind x cells at) w e
+    one-read : end p t r c ≡ oneOf ours (from b tx rx cells at) kind (valueOf high low)
+    one-read = subst (λ (x : ℕ). end p t r c ≡ oneOf ours (from b tx rx cells at) kind x) w e
 
     abbrev from-here : End
     from-here = shownAt (played ours b tx rx (kind ∷ high ∷ low ∷ drop (i + 3) records)) cells at

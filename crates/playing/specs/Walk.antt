@@ -16,15 +16,18 @@ abbrev pub partOf : Bridge → ℕ → Bool → Part
 partOf b length on = record { bridge = b; length = length; on = on }
 
 -- an event's line, and the place after it
-abbrev pub lineAt : ℕ → ℕ → Out → List ℕ → ℕ → End
-lineAt kind value o cells at =
-    end (partOf (o .answer .state) (at + lineFor kind value (o .answer) .length) true) (o .tx) (o .rx)
-    (sets cells at (bytesOf (lineFor kind value (o .answer))))
+abbrev pub lineAt : ℕ → ℕ → Out → End → End
+lineAt kind value o from =
+    end (partOf (o .answer .state) (from .part .length + lineFor kind value (o .answer) .length) true) (o .tx) (o .rx)
+    (sets (from .out) (from .part .length) (bytesOf (lineFor kind value (o .answer))))
 
 -- `bad record`, and the place after it
-abbrev pub stopAt : Bridge → List ℕ → List ℕ → List ℕ → ℕ → End
-stopAt b tx rx cells at = end (partOf b (at + saidLength) false) tx rx (sets cells at (bytesOf badRecord))
+abbrev pub stopAt : End → End
+stopAt from =
+    end (partOf (from .part .bridge) (from .part .length + saidLength) false) (from .tx) (from .rx)
+    (sets (from .out) (from .part .length) (bytesOf badRecord))
 
-unfoldable pub oneOf : Layout → Bridge → List ℕ → List ℕ → ℕ → ℕ → List ℕ → ℕ → End
-oneOf l b tx rx kind value cells at =
-    judged (recordOf kind value) (λ (e : Event). lineAt kind value (step l b tx rx e) cells at) (stopAt b tx rx cells at)
+-- a record, from where the records before it ended
+unfoldable pub oneOf : Layout → End → ℕ → ℕ → End
+oneOf l from kind value =
+    judged (recordOf kind value) (λ (e : Event). lineAt kind value (step l (from .part .bridge) (from .tx) (from .rx) e) from) (stopAt from)

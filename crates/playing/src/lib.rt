@@ -117,7 +117,7 @@ fn one(
     at: usize,
 ) -> Part
     requires { ⌜ at + 17 ≤ length (now out) ⌝ }
-    ensures { λ r. ⌜ end r (now (tx .exit)) (now (rx .exit)) (now (out .exit)) ≡ oneOf ours start (now (tx .entry)) (now (rx .entry)) kind value (now (out .entry)) at ⌝ }
+    ensures { λ r. ⌜ end r (now (tx .exit)) (now (rx .exit)) (now (out .exit)) ≡ oneOf ours (end (partOf start at true) (now (tx .entry)) (now (rx .entry)) (now (out .entry))) kind value ⌝ }
 {
     let Record::Good(event) = script::read(kind, value) else {
         return stop(start, out, at);
