@@ -51,10 +51,9 @@ sound-facts b s l =
         tx = f .tx;
         queue = q;
         eight = l;
-        gone = piece-gone (sd .gone) (sd .left) (sd .ends) _ _ _ (sd .piece) (f .sender .piece);
-        left =
-            piece-left (sd .gone) (sd .left) (sd .ends) _ _ _ (sd .piece) (f .sender .piece) (λ u. q .words _ (busy-used (b .sending .queue) q u));
-        ends = piece-ends (sd .gone) (sd .left) (sd .ends) _ _ _ (sd .piece) (f .sender .piece) (λ u. q .ends _ (busy-used (b .sending .queue) q u));
+        gone = piece-gone sd _ _ (sd .piece) (f .sender .piece);
+        left = piece-left sd _ _ (sd .piece) (f .sender .piece) (λ u. q .words _ (busy-used (b .sending .queue) q u));
+        ends = piece-ends sd _ _ (sd .piece) (f .sender .piece) (λ u. q .ends _ (busy-used (b .sending .queue) q u));
         sum = f .ledger .sum;
         room = f .ledger .last;
         some = some-waiting (b .sending .queue) (f .standing);

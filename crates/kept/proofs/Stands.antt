@@ -61,7 +61,7 @@ stands-done s st ResetAll f l t a = record {
   standing = emptied-standing (s .queue);
   sender = record {
     piece =
-        piece-rests (s .sender .gone) (s .sender .left) (s .sender .ends) _ _ _ (s .sender .piece) _ _ (t .sender .piece) (idle-left (s .sender) a .0)
+        piece-rests (s .sender) _ _ (s .sender .piece) _ (t .sender .piece) (idle-left (s .sender) a .0)
         (idle-left (s .sender) a .1);
     rest = none (idle (s .sender));
   };
@@ -76,8 +76,7 @@ stands-done s st ResetAll f l t a = record {
 -- before its place may be sent, a tick leaves the piece's rule; an idle sender may still have its place under way
 pub record Moves (s : Sending) : Type 0 where
   pub standing : Standing (s .queue)
-  pub piece : pieceSound (s .sender .piece) (s .sender .gone) (s .sender .left) (s .sender .ends) (underWay (s .queue)) (lastBegun (s .queue) .words)
-      (lastBegun (s .queue) .ends) ≡ true
+  pub piece : pieceSound (s .sender .piece) (s .sender) (underWay (s .queue)) (lastBegun (s .queue)) ≡ true
 
 rests-idle : (s : Sending) → Stands s → over s → s .sender .left ≡ 0 → s .sender .ends ≡ 0 → underWay (s .queue) ≡ false
 rests-idle s t o l e =
@@ -109,19 +108,19 @@ module _ (s : Sending) (w : ℕ) (f : QueueFit (s .queue)) (l : length (s .queue
   unfolding advanced senderAfter
   moves-by GoOn c = record {
     standing = t .standing;
-    piece = piece-goes-on (s .sender .gone) (s .sender .left) (s .sender .ends) _ _ _ (s .sender .piece) (t .sender .piece) c;
+    piece = piece-goes-on (s .sender) _ _ (s .sender .piece) (t .sender .piece) c;
   }
   moves-by LoadWord c =
       let k : SenderFit (s .sender) (queueSent (s .queue) (s .sender .left) w) = fit-steady (s .sender) (s .queue) _ sent-steady (t .sender) in
       record {
         standing = sent-steady .standing;
-        piece = piece-loaded (s .sender .gone) (s .sender .left) (s .sender .ends) _ _ _ (s .sender .piece) w (k .piece) (c .1);
+        piece = piece-loaded (s .sender) _ _ (s .sender .piece) w (k .piece) (c .1);
       }
   moves-by Starve c = record { standing = t .standing; piece = unfold pieceSound in le-leb 0 (pick (underWay (s .queue)) (lastBegun (s .queue) .ends) 0) (omega arith) }
   moves-by LoadEnd c = record {
     standing = t .standing;
     piece = unfold pieceSound in
-        piece-ended (s .sender .gone) (s .sender .left) (s .sender .ends) _ _ _ (s .sender .piece) (t .sender .piece) (c .1);
+        piece-ended (s .sender) _ _ (s .sender .piece) (t .sender .piece) (c .1);
   }
   moves-by StartWords c =
       let u : underWay (s .queue) ≡ false = rests-idle s t (c .0) (c .1) (c .2) in
@@ -187,7 +186,7 @@ finished-ends s f l m =
             standing = r .standing;
             sender = record {
               piece = rw (r .rest)
-                  (piece-rests (s .sender .gone) (s .sender .left) (s .sender .ends) _ _ _ (s .sender .piece) _ _ (m .piece) (idle-left (s .sender) i .0)
+                  (piece-rests (s .sender) _ _ (s .sender .piece) _ (m .piece) (idle-left (s .sender) i .0)
                   (idle-left (s .sender) i .1));
               rest = rw (r .rest) (none (idle (s .sender)));
             };

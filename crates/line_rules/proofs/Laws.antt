@@ -9,21 +9,22 @@ use Rattle.line.specs.declared.Piece.{Piece}
 use Rattle.line.specs.declared.Piece.the-variants.{EndPiece}
 use Rattle.registers.specs.declared.Flags.{Flags}
 use Rattle.state.specs.declared.Reader.{Reader}
+use Rattle.state.specs.declared.Place.{Place}
 use Rattle.state.specs.declared.Queue.{Queue}
+use Rattle.state.specs.declared.Sender.{Sender}
 use Rattle.line_rules.specs.Line.{pieceSound, earSound, marksSound}
 
 pub to-marks : (v w : Ear) (r : Reader) (q : Queue) (f : Flags) (x : Bool) → v ≡ w → x ≡ marksSound w r q f → x ≡ marksSound v r q f
 to-marks v w r q f x h e = rw h e
 
-pub to-piece : (v w : Piece) (gone left ends : ℕ) (busy : Bool) (words extra : ℕ) (x : Bool) → v ≡ w
-    → x ≡ pieceSound w gone left ends busy words extra → x ≡ pieceSound v gone left ends busy words extra
-to-piece v w gone left ends busy words extra x h e = rw h e
+pub to-piece : (v w : Piece) (s : Sender) (busy : Bool) (p : Place) (x : Bool) → v ≡ w → x ≡ pieceSound w s busy p → x ≡ pieceSound v s busy p
+to-piece v w s busy p x h e = rw h e
 
 pub to-ear : (v w : Ear) (x : Bool) → v ≡ w → x ≡ earSound w → x ≡ earSound v
 to-ear v w x h e = rw h e
 
 -- an END's piece, by the ENDs that it was told may be left
-pub end-told : (u : Piece) (gone left ends : ℕ) (busy : Bool) (words extra most : ℕ) → u ≡ EndPiece → most ≡ pick busy extra 0
-    → (ltb 0 gone && leb gone 18 && eqb left 0 && leb ends most) ≡ pieceSound u gone left ends busy words extra
+pub end-told : (u : Piece) (s : Sender) (busy : Bool) (p : Place) (most : ℕ) → u ≡ EndPiece → most ≡ pick busy (p .ends) 0
+    → (ltb 0 (s .gone) && leb (s .gone) 18 && eqb (s .left) 0 && leb (s .ends) most) ≡ pieceSound u s busy p
 unfolding pieceSound
-end-told u gone left ends busy words extra most e h = rw (e, h) refl
+end-told u s busy p most e h = rw (e, h) refl

@@ -1,6 +1,6 @@
 -- The record rules of the sender and of the reader (01 Notes, note 2). docs/RECORD-RULES.md says what each is for. Assumes nothing.
 use mathlib.Core.Bool.{Bool, true, not, _&&_, _||_}
-use Prim.Native.Nat.{ℕ, _+_, _-_}
+use Prim.Native.Nat.{_+_, _-_}
 use lib.Dec.{ltb, leb, eqb}
 use Rattle.base.specs.Pick.{pick}
 use Rattle.line.specs.Format.{groupLength, endLength}
@@ -17,15 +17,15 @@ use Rattle.state.specs.declared.Queue.{Queue}
 use Rattle.state.specs.declared.Reader.{Reader}
 use Rattle.state.specs.declared.Sender.{Sender}
 
--- The sender: its piece, and what is left of the command whose place is under way (`busy`), of so many words and extra ENDs. A piece begins
--- with its first bit gone. Nothing is left with no place under way, but for an END that a transmit clear owes.
-unfoldable pub pieceSound : Piece → ℕ → ℕ → ℕ → Bool → ℕ → ℕ → Bool
-pieceSound Pause gone left ends busy words extra = eqb gone 0 && eqb left 0 && leb ends 1 && not busy
-pieceSound StartBit gone left ends busy words extra = eqb gone 1 && eqb left words && ltb 0 words && eqb ends (extra + 1) && busy
-pieceSound (WordPiece w) gone left ends busy words extra =
-    ltb 0 gone && leb gone groupLength && ltb left words && eqb ends (extra + 1) && busy
-pieceSound EndPiece gone left ends busy words extra =
-    ltb 0 gone && leb gone endLength && eqb left 0 && leb ends (pick busy extra 0)
+-- The sender by its piece: what is left is of the command whose place is under way (`busy`). A piece begins with its first bit gone. Nothing is
+-- left with no place under way, but for an END that a transmit clear owes.
+unfoldable pub pieceSound : Piece → Sender → Bool → Place → Bool
+pieceSound Pause s busy p = eqb (s .gone) 0 && eqb (s .left) 0 && leb (s .ends) 1 && not busy
+pieceSound StartBit s busy p = eqb (s .gone) 1 && eqb (s .left) (p .words) && ltb 0 (p .words) && eqb (s .ends) (p .ends + 1) && busy
+pieceSound (WordPiece w) s busy p =
+    ltb 0 (s .gone) && leb (s .gone) groupLength && ltb (s .left) (p .words) && eqb (s .ends) (p .ends + 1) && busy
+pieceSound EndPiece s busy p =
+    ltb 0 (s .gone) && leb (s .gone) endLength && eqb (s .left) 0 && leb (s .ends) (pick busy (p .ends) 0)
 
 -- the youngest place that has begun
 abbrev pub lastBegun : Queue → Place
@@ -33,9 +33,7 @@ lastBegun q = placeAt q (q .begun - 1)
 
 -- "A command with extra ENDs is sent with the last bit of the last extra END": an idle sender has no place under way
 abbrev pub senderSound : Sender → Queue → Bool
-senderSound s q =
-    pieceSound (s .piece) (s .gone) (s .left) (s .ends) (underWay q) (lastBegun q .words) (lastBegun q .ends)
-    && not (idle s && underWay q)
+senderSound s q = pieceSound (s .piece) s (underWay q) (lastBegun q) && not (idle s && underWay q)
 
 unfoldable pub earSound : Ear → Bool
 earSound Quiet = true

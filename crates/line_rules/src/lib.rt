@@ -7,6 +7,7 @@ ghost use Rattle.registers.specs.Registers.{rxff as rxffOf};
 use line::Ear;
 use line::Piece;
 use registers::Flags;
+use state::Place;
 use state::Queue;
 use state::Reader;
 use state::Sender;
@@ -18,13 +19,15 @@ fn ends_allowed(busy: bool, extra: u16) -> u16
     if busy { extra } else { 0 }
 }
 
-fn piece_sound(sender: Sender, busy: bool, words: u16, extra: u16) -> bool
-    ensures { λ r. ⌜ r ≡ pieceSound (sender .piece) (sender .gone) (sender .left) (sender .ends) busy words extra ⌝ }
+fn piece_sound(sender: Sender, busy: bool, place: Place) -> bool
+    ensures { λ r. ⌜ r ≡ pieceSound (sender .piece) sender busy place ⌝ }
 {
     let piece = sender.piece;
     let gone = sender.gone;
     let left = sender.left;
     let ends = sender.ends;
+    let words = place.words;
+    let extra = place.ends;
     match piece {
         Piece::Pause => (gone == 0) & (left == 0) & (ends <= 1) & !busy,
         Piece::StartBit => {
@@ -47,7 +50,7 @@ pub fn sender_sound(sender: Sender, queue: Queue) -> bool
 {
     let busy = queue::is_under_way(queue);
     let last = queue::place_at(queue, state::less_one(queue.begun));
-    let piece = piece_sound(sender, busy, last.words, last.ends);
+    let piece = piece_sound(sender, busy, last);
     let idle = deeds::is_idle(sender);
     piece & !(idle & busy)
 }

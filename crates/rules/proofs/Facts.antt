@@ -157,37 +157,37 @@ pub sender-from : (s : Sender) (q : Queue) → SenderFit s q → senderSound s q
 sender-from s q f = let r : (idle s && underWay q) ≡ false = f .rest in and-both _ _ (f .piece) (rw r)
 
 -- the sender's counts fit: what is left is of the place under way
-module _ (gone left ends : ℕ) (busy : Bool) (words extra : ℕ) where
-  pub piece-gone : (u : Piece) → pieceSound u gone left ends busy words extra ≡ true → gone ≤ pieceLength u
+module _ (s : Sender) (busy : Bool) (p : Place) where
+  pub piece-gone : (u : Piece) → pieceSound u s busy p ≡ true → s .gone ≤ pieceLength u
   unfolding pieceSound
-  piece-gone Pause h = let e : gone ≡ 0 = eqb-true _ _ (search (and-l, and-r)) in omega arith
-  piece-gone StartBit h = let e : gone ≡ 1 = eqb-true _ _ (search (and-l, and-r)) in omega arith
+  piece-gone Pause h = let e : s .gone ≡ 0 = eqb-true _ _ (search (and-l, and-r)) in omega arith
+  piece-gone StartBit h = let e : s .gone ≡ 1 = eqb-true _ _ (search (and-l, and-r)) in omega arith
   piece-gone (WordPiece w) h = leb-true _ _ (search (and-l, and-r))
   piece-gone EndPiece h = leb-true _ _ (search (and-l, and-r))
 
-  pub piece-left : (u : Piece) → pieceSound u gone left ends busy words extra ≡ true → (busy ≡ true → words ≤ 4096) → left ≤ 4096
+  pub piece-left : (u : Piece) → pieceSound u s busy p ≡ true → (busy ≡ true → p .words ≤ 4096) → s .left ≤ 4096
   unfolding pieceSound
-  piece-left Pause h m = let e : left ≡ 0 = eqb-true _ _ (search (and-l, and-r)) in omega arith
+  piece-left Pause h m = let e : s .left ≡ 0 = eqb-true _ _ (search (and-l, and-r)) in omega arith
   piece-left StartBit h m =
-      let e : left ≡ words = eqb-true _ _ (search (and-l, and-r)) in
-      let w : words ≤ 4096 = m (search (and-l, and-r)) in omega arith
+      let e : s .left ≡ p .words = eqb-true _ _ (search (and-l, and-r)) in
+      let w : p .words ≤ 4096 = m (search (and-l, and-r)) in omega arith
   piece-left (WordPiece w) h m =
-      let e : left < words = ltb-true _ _ (search (and-l, and-r)) in
-      let w : words ≤ 4096 = m (search (and-l, and-r)) in omega arith
-  piece-left EndPiece h m = let e : left ≡ 0 = eqb-true _ _ (search (and-l, and-r)) in omega arith
+      let e : s .left < p .words = ltb-true _ _ (search (and-l, and-r)) in
+      let w : p .words ≤ 4096 = m (search (and-l, and-r)) in omega arith
+  piece-left EndPiece h m = let e : s .left ≡ 0 = eqb-true _ _ (search (and-l, and-r)) in omega arith
 
-  pub piece-ends : (u : Piece) → pieceSound u gone left ends busy words extra ≡ true → (busy ≡ true → extra ≤ 127) → ends ≤ 128
+  pub piece-ends : (u : Piece) → pieceSound u s busy p ≡ true → (busy ≡ true → p .ends ≤ 127) → s .ends ≤ 128
   unfolding pieceSound
-  piece-ends Pause h m = let e : ends ≤ 1 = leb-true _ _ (search (and-l, and-r)) in omega arith
+  piece-ends Pause h m = let e : s .ends ≤ 1 = leb-true _ _ (search (and-l, and-r)) in omega arith
   piece-ends StartBit h m =
-      let e : ends ≡ extra + 1 = eqb-true _ _ (search (and-l, and-r)) in
-      let x : extra ≤ 127 = m (search (and-l, and-r)) in omega arith
+      let e : s .ends ≡ p .ends + 1 = eqb-true _ _ (search (and-l, and-r)) in
+      let x : p .ends ≤ 127 = m (search (and-l, and-r)) in omega arith
   piece-ends (WordPiece w) h m =
-      let e : ends ≡ extra + 1 = eqb-true _ _ (search (and-l, and-r)) in
-      let x : extra ≤ 127 = m (search (and-l, and-r)) in omega arith
+      let e : s .ends ≡ p .ends + 1 = eqb-true _ _ (search (and-l, and-r)) in
+      let x : p .ends ≤ 127 = m (search (and-l, and-r)) in omega arith
   piece-ends EndPiece h m =
-      let e : ends ≤ pick busy extra 0 = leb-true _ _ (search (and-l, and-r)) in
-      let x : pick busy extra 0 ≤ 127 = pick-keeps (λ (n : ℕ). n ≤ 127) busy extra 0 m (λ b. omega arith) in omega arith
+      let e : s .ends ≤ pick busy (p .ends) 0 = leb-true _ _ (search (and-l, and-r)) in
+      let x : pick busy (p .ends) 0 ≤ 127 = pick-keeps (λ (n : ℕ). n ≤ 127) busy (p .ends) 0 m (λ b. omega arith) in omega arith
 
 -- a place under way is one in use
 pub busy-used : (q : Queue) → QueueFit q → underWay q ≡ true → q .begun - 1 < q .used
@@ -273,7 +273,7 @@ mine-held s p f = let l : lastLeft s ≤ s .sender .left + wordsOf (waiting (s .
 
 pub send-fit : (b : Bridge) → Sound b → SendFit (b .sending)
 send-fit b f =
-    let g : b .sending .sender .gone ≤ pieceLength (b .sending .sender .piece) = piece-gone _ _ _ _ _ _ _ (f .sender .piece) in
+    let g : b .sending .sender .gone ≤ pieceLength (b .sending .sender .piece) = piece-gone _ _ _ _ (f .sender .piece) in
     let m : pieceLength (b .sending .sender .piece) ≤ 18 = piece-most (b .sending .sender .piece) in
     record { tx = f .tx; queue = f .queue; gone = omega arith }
 

@@ -29,7 +29,7 @@ pub record Standing (q : Queue) : Type 0 where
   pub fresh : (i : ℕ) → q .begun ≤ i → i < q .used → waits (placeAt q i) ≡ true
 
 pub record SenderFit (s : Sender) (q : Queue) : Type 0 where
-  pub piece : pieceSound (s .piece) (s .gone) (s .left) (s .ends) (underWay q) (lastBegun q .words) (lastBegun q .ends) ≡ true
+  pub piece : pieceSound (s .piece) s (underWay q) (lastBegun q) ≡ true
   pub rest : (idle s && underWay q) ≡ false
 
 -- the rules of registers, flags and frame; `count` words are in RX
