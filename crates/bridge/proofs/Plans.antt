@@ -33,7 +33,7 @@ use Rattle.release.specs.Release.{cut}
 use Rattle.answers.specs.Answers.{answerWith, dataAnswered, registerAnswered, answered}
 use Rattle.writes.specs.declared.Effects.{Effects}
 use Rattle.forwards.specs.declared.Granted.{Granted}
-use Rattle.forwards.specs.declared.Progress.{Progress}
+use Rattle.state.specs.declared.Progress.{Progress}
 use Rattle.plan.specs.declared.Plan.{Plan}
 use Rattle.forwards.specs.declared.Wish.{Wish}
 use Rattle.bridge.specs.Runs.{refuses, faults}

@@ -17,8 +17,9 @@ use Rattle.rules.specs.Sound.{sound}
 use Rattle.next.specs.Next.{mayStart}
 use Rattle.sender.specs.Sender.{tickSender}
 use Rattle.sender.specs.declared.Sent.{Sent}
-use Rattle.state.specs.Frame.{isForward, mineOf, owedBy, toCome, forwardSound, collectSound, phaseSound}
+use Rattle.state.specs.Frame.{fwd, progress, isForward, mineOf, owedBy, toCome, forwardSound, collectSound, phaseSound}
 use Rattle.state.specs.declared.Bridge.{Bridge}
+use Rattle.state.specs.declared.Fwd.{Fwd}
 use Rattle.state.specs.declared.Phase.{Phase}
 use Rattle.state.specs.declared.Phase.the-variants.{Idle, Collecting, Answering, Discarding}
 use Rattle.state.specs.declared.Sending.{Sending}
@@ -58,13 +59,13 @@ blocked-mine (Collecting command got sum mine released blocked) = refl
 blocked-mine (Answering reply sum) = refl
 blocked-mine Discarding = refl
 
-forward-blocked : (crc : Bool) (words ends got mine : ℕ) (released blocked : Bool) → mine ≡ 0 → forwardSound crc words ends got mine released blocked ≡ true
-    → forwardSound crc words ends got mine released true ≡ true
-forward-blocked crc words ends got mine released blocked m s =
+forward-blocked : (f : Fwd) (got sum mine : ℕ) (released blocked : Bool) → mine ≡ 0
+    → forwardSound f (progress got sum mine released blocked) ≡ true → forwardSound f (progress got sum mine released true) ≡ true
+forward-blocked f got sum mine released blocked m s =
     let none : eqb mine (pick (released || true) 0 got) ≡ true = rw (or-true released) (unfold pick in eq-eqb mine 0 m) in
-    let now : (crc || released || true || ltb got words || (eqb words 0 && eqb ends 0)) ≡ true = rw (or-true (crc || released)) in
-    let within : (leb got words && leb words 4096 && leb ends 127) ≡ true = search (and-l, and-r) in
-    let plain : not (released && crc) ≡ true = search (and-l, and-r) in
+    let now : (f .crc || released || true || ltb got (f .words) || (eqb (f .words) 0 && eqb (f .ends) 0)) ≡ true = rw (or-true (f .crc || released)) in
+    let within : (leb got (f .words) && leb (f .words) 4096 && leb (f .ends) 127) ≡ true = search (and-l, and-r) in
+    let plain : not (released && f .crc) ≡ true = search (and-l, and-r) in
     rw (within, none, plain, now)
 
 pub blocked-sound : (p : Phase) → mineOf p ≡ 0 → phaseSound p ≡ true → phaseSound (blockedIn p) ≡ true
@@ -73,7 +74,7 @@ blocked-sound Idle m s = s
 blocked-sound (Collecting Filler got sum mine released blocked) m s = s
 blocked-sound (Collecting Malformed got sum mine released blocked) m s = s
 blocked-sound (Collecting (Forward crc words ends reads) got sum mine released blocked) m s =
-    forward-blocked crc words ends got mine released blocked m s
+    forward-blocked (fwd crc words ends reads) got sum mine released blocked m s
 blocked-sound (Collecting (DataRead crc words) got sum mine released blocked) m s = s
 blocked-sound (Collecting (RegisterWrite crc address count) got sum mine released blocked) m s = s
 blocked-sound (Collecting (RegisterRead crc address count) got sum mine released blocked) m s = s

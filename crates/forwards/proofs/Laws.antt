@@ -11,15 +11,15 @@ use Rattle.registers.specs.Registers.{blocking}
 use Rattle.registers.specs.declared.Control.{Control}
 use Rattle.state.specs.Queue.{newPlace}
 use Rattle.state.specs.declared.Bridge.{Bridge}
+use Rattle.state.specs.declared.Fwd.{Fwd}
 use Rattle.state.specs.declared.Note.{Note}
 use Rattle.state.specs.declared.Note.the-variants.{Done, WrongStores, BrokenRecord, MalformedWord, Discarded, Blocked, CrcRefused, CrcWrong, TxFull, QueueFull, LineBusy, ResetRefused, CutShort, TxEmpty, RxFull, RxEmpty}
 use Rattle.state.specs.declared.Place.{Place}
+use Rattle.state.specs.declared.Progress.{Progress}
 use Rattle.state.specs.declared.Store.the-variants.{Keep, Put}
 use Rattle.state.proofs.Note.{the-type}
 use Rattle.forwards.specs.Forward.{wish, justBegun, wordCounted, guard, faulted, forwarded, releases, forwardWord, forwardBegun}
 use Rattle.forwards.specs.declared.Granted.{Granted}
-use Rattle.forwards.specs.declared.Fwd.{Fwd}
-use Rattle.forwards.specs.declared.Progress.{Progress}
 use Rattle.plan.specs.declared.Plan.{Plan}
 use borrow.Author.Tests.{ltb-true, ltb-false, le-leb, lt-leb}
 use Rattle.base.specs.Pick.{pick}

@@ -12,10 +12,12 @@ use Rattle.state.specs.Queue.{places, newPlace}
 use Rattle.state.specs.declared.Bridge.{Bridge}
 use Rattle.state.specs.declared.Deed.{Deed}
 use Rattle.state.specs.declared.Deed.the-variants.{Leave, Enqueue, TakeBack, ClearAll, ResetAll}
+use Rattle.state.specs.declared.Fwd.{Fwd}
 use Rattle.state.specs.declared.Note.{Note}
 use Rattle.state.specs.declared.Note.the-variants.{Done, WrongStores, BrokenRecord, MalformedWord, Discarded, Blocked, CrcRefused, CrcWrong, TxFull, QueueFull, LineBusy, ResetRefused, CutShort, TxEmpty, RxFull, RxEmpty}
 use Rattle.state.specs.declared.Phase.the-variants.{Collecting}
 use Rattle.state.specs.declared.Place.{Place}
+use Rattle.state.specs.declared.Progress.{Progress}
 use Rattle.state.specs.declared.Store.{Store}
 use Rattle.state.specs.declared.Store.the-variants.{Keep, Put}
 use Rattle.plan.specs.Plan.{noAnswer}
@@ -23,17 +25,12 @@ use Rattle.plan.specs.declared.Plan.{Plan}
 use Rattle.plan.specs.declared.Receive.the-variants.{LeaveRx}
 use Rattle.forwards.specs.declared.Wish.{Wish}
 use Rattle.forwards.specs.declared.Granted.{Granted}
-use Rattle.forwards.specs.declared.Fwd.{Fwd}
-use Rattle.forwards.specs.declared.Progress.{Progress}
 
 abbrev pub wish : Store → Bool → Place → Wish
 wish st release p = record { store = st; release = release; place = p }
 
 abbrev pub granted : Store → Deed → Note → Granted
 granted st d n = record { store = st; deed = d; note = n }
-
-abbrev pub fwd : Bool → ℕ → ℕ → Bool → Fwd
-fwd crc words ends reads = record { crc = crc; words = words; ends = ends; reads = reads }
 
 -- just after the command word
 abbrev pub justBegun : ℕ → Bool → Progress

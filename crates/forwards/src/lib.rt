@@ -16,9 +16,11 @@ use registers::Control;
 use registers::Flag;
 use state::Bridge;
 use state::Deed;
+use state::Fwd;
 use state::Note;
 use state::Phase;
 use state::Place;
+use state::Progress;
 use state::Store;
 
 // What a forward asks: a word to store, and whether its command is to be queued.
@@ -33,23 +35,6 @@ pub struct Granted {
     pub store: Store,
     pub deed: Deed,
     pub note: Note,
-}
-
-// What a forward's command word says.
-pub struct Fwd {
-    pub crc: bool,
-    pub words: u16,
-    pub ends: u16,
-    pub reads: bool,
-}
-
-// How far an open frame has come: what `state::Phase::Collecting` keeps beside the command.
-pub struct Progress {
-    pub got: u16,
-    pub crc: u16,
-    pub mine: u16,
-    pub released: bool,
-    pub blocked: bool,
 }
 
 fn asks_store(store: Store) -> bool

@@ -8,13 +8,13 @@ use Rattle.command.specs.declared.Command.{Command}
 use Rattle.state.specs.declared.Reply.{Reply}
 use Rattle.state.specs.declared.Phase.{Phase}
 use Rattle.state.specs.declared.Phase.the-variants.{Collecting}
+use Rattle.state.specs.declared.Progress.{Progress}
 use Rattle.state.specs.Frame.{isForward, dataWords, owedBy, mineOf, toCome, collectSound, replySound, phaseSound}
 use Rattle.frame_rules.specs.Frames.{isUnmarked}
 
 -- an arm knows the constructor
-pub to-collect : (v w : Command) (got mine : ℕ) (released blocked x : Bool) → v ≡ w → x ≡ collectSound w got mine released blocked
-    → x ≡ collectSound v got mine released blocked
-to-collect v w got mine released blocked x h e = rw h e
+pub to-collect : (v w : Command) (at : Progress) (x : Bool) → v ≡ w → x ≡ collectSound w at → x ≡ collectSound v at
+to-collect v w at x h e = rw h e
 
 pub to-reply : (v w : Reply) (x : Bool) → v ≡ w → x ≡ replySound w → x ≡ replySound v
 to-reply v w x h e = rw h e

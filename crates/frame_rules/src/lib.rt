@@ -10,7 +10,9 @@ use command::Command;
 use registers::Control;
 use registers::Flags;
 use registers::Mode;
+use state::Fwd;
 use state::Phase;
+use state::Progress;
 use state::Reply;
 
 fn otp_sound(mode: Mode, otp: bool) -> bool
@@ -49,19 +51,17 @@ fn unreleased(got: u16, released: bool, blocked: bool) -> u16
     if released | blocked { 0 } else { got }
 }
 
-fn forward_sound(
-    crc: bool,
-    words: u16,
-    ends: u16,
-    got: u16,
-    mine: u16,
-    released: bool,
-    blocked: bool,
-) -> bool
-    ensures { λ r. ⌜ r ≡ forwardSound crc words ends got mine released blocked ⌝ }
+fn forward_sound(forward: Fwd, at: Progress) -> bool
+    ensures { λ r. ⌜ r ≡ forwardSound forward at ⌝ }
 {
+    let crc = forward.crc;
+    let words = forward.words;
+    let ends = forward.ends;
+    let got = at.got;
+    let released = at.released;
+    let blocked = at.blocked;
     let counts = (got <= words) & (words <= 4096) & (ends <= 127);
-    let own = mine == unreleased(got, released, blocked);
+    let own = at.mine == unreleased(got, released, blocked);
     let none = (words == 0) & (ends == 0);
     let due = crc | released | blocked | (got < words) | none;
     counts & own & !(released & crc) & due
@@ -73,9 +73,12 @@ fn span_sound(address: u16, count: u16) -> bool
     address as u32 + count as u32 <= 11
 }
 
-fn collect_sound(command: Command, got: u16, mine: u16, released: bool, blocked: bool) -> bool
-    ensures { λ r. ⌜ r ≡ collectSound command got mine released blocked ⌝ }
+fn collect_sound(command: Command, at: Progress) -> bool
+    ensures { λ r. ⌜ r ≡ collectSound command at ⌝ }
 {
+    let got = at.got;
+    let mine = at.mine;
+    let released = at.released;
     match command {
         Command::Filler => false,
         Command::Malformed => false,
@@ -83,8 +86,16 @@ fn collect_sound(command: Command, got: u16, mine: u16, released: bool, blocked:
             crc,
             words,
             ends,
-            reads: _,
-        } => forward_sound(crc, words, ends, got, mine, released, blocked),
+            reads,
+        } => forward_sound(
+            Fwd {
+                crc: crc,
+                words: words,
+                ends: ends,
+                reads: reads,
+            },
+            at,
+        ),
         Command::DataRead { crc: _, words } => (got == 0)
             & (mine == 0)
             & !released
@@ -123,11 +134,20 @@ pub fn phase_sound(phase: Phase) -> bool
         Phase::Collecting {
             command,
             got,
-            crc: _,
+            crc,
             mine,
             released,
             blocked,
-        } => collect_sound(command, got, mine, released, blocked),
+        } => collect_sound(
+            command,
+            Progress {
+                got: got,
+                crc: crc,
+                mine: mine,
+                released: released,
+                blocked: blocked,
+            },
+        ),
         Phase::Answering { reply, crc: _ } => reply_sound(reply),
         Phase::Discarding => true,
     }

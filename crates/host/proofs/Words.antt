@@ -5,8 +5,8 @@ use Rattle.command.specs.Layouts.{ours}
 use Rattle.command.specs.declared.Command.{Command}
 use Rattle.state.specs.declared.Phase.{Phase}
 use Rattle.state.specs.declared.Phase.the-variants.{Idle}
+use Rattle.state.specs.declared.Progress.{Progress}
 use Rattle.state.specs.declared.Bridge.{Bridge}
-use Rattle.forwards.specs.declared.Progress.{Progress}
 use Rattle.host.specs.Frames.{collects, opened, summed, dataWord, plannedIn, planned}
 use Rattle.plan.specs.declared.Plan.{Plan}
 

@@ -7,14 +7,14 @@ use Rattle.command.specs.Layouts.{Layout}
 use Rattle.command.specs.declared.Command.{Command}
 use Rattle.command.specs.declared.Command.the-variants.{Filler, Malformed, Forward, DataRead, RegisterWrite, RegisterRead, SoftReset}
 use Rattle.registers.specs.Registers.{blocking}
-use Rattle.state.specs.Frame.{dataWords}
+use Rattle.state.specs.Frame.{fwd, progress, dataWords}
 use Rattle.state.specs.declared.Bridge.{Bridge}
 use Rattle.state.specs.declared.Note.the-variants.{Done, MalformedWord, Discarded}
 use Rattle.state.specs.declared.Phase.{Phase}
 use Rattle.state.specs.declared.Phase.the-variants.{Idle, Collecting, Answering, Discarding}
+use Rattle.state.specs.declared.Progress.{Progress}
 use Rattle.plan.specs.Plan.{plain}
-use Rattle.forwards.specs.Forward.{fwd, wordCounted, forwardWord, forwardBegun}
-use Rattle.forwards.specs.declared.Progress.{Progress}
+use Rattle.forwards.specs.Forward.{wordCounted, forwardWord, forwardBegun}
 use Rattle.plan.specs.declared.Plan.{Plan}
 use Rattle.writes.specs.Writes.{registerWord}
 use Rattle.closing.specs.Closing.{crcDue}
@@ -66,7 +66,7 @@ collected l b command at w =
 unfoldable pub plannedIn : Layout → Bridge → Phase → ℕ → ℕ → Plan
 plannedIn l b Idle w x = opened b (l .decode w) (l .crcStep (l .crcStart) w)
 plannedIn l b (Collecting command got sum mine released blocked) w x =
-    collected l b command (record { got = got; crc = sum; mine = mine; released = released; blocked = blocked }) w
+    collected l b command (progress got sum mine released blocked) w
 plannedIn l b (Answering reply sum) w x = answered l b reply sum x
 plannedIn l b Discarding w x = plain b Discarding Discarded
 

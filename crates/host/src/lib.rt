@@ -9,15 +9,15 @@ ghost use Rattle.host.specs.Frames.{collects as collectsOf, opened as op
 use answers::answered;
 use closing::crc_due;
 use command::Command;
-use forwards::Fwd;
-use forwards::Progress;
 use forwards::forward_begun;
 use forwards::forward_word;
 use plan::Plan;
 use plan::plain;
 use state::Bridge;
+use state::Fwd;
 use state::Note;
 use state::Phase;
+use state::Progress;
 use writes::register_word;
 
 fn collects(bridge: Bridge, command: Command, sum: u16) -> Plan
@@ -101,7 +101,7 @@ fn register_data(
 
 // A data word; only forwards and register writes have them.
 fn data_word(bridge: Bridge, command: Command, at: Progress, word: u16) -> Plan
-    requires { ⌜ (SendFit (bridge .sending)) × (at .mine ≤ bridge .sending .tx .count) × (collectSound command (at .got) (at .mine) (at .released) (at .blocked) ≡ true) × (at .got < dataWords command) ⌝ }
+    requires { ⌜ (SendFit (bridge .sending)) × (at .mine ≤ bridge .sending .tx .count) × (collectSound command at ≡ true) × (at .got < dataWords command) ⌝ }
     ensures { λ r. ⌜ r ≡ dataWord bridge command at word ⌝ }
 {
     match command {
@@ -140,7 +140,7 @@ fn data_word(bridge: Bridge, command: Command, at: Progress, word: u16) -> Plan
 
 // A data word or the CRC word.
 fn collected(bridge: Bridge, command: Command, at: Progress, word: u16) -> Plan
-    requires { ⌜ (SendFit (bridge .sending)) × (at .mine ≤ bridge .sending .tx .count) × (collectSound command (at .got) (at .mine) (at .released) (at .blocked) ≡ true) ⌝ }
+    requires { ⌜ (SendFit (bridge .sending)) × (at .mine ≤ bridge .sending .tx .count) × (collectSound command at ≡ true) ⌝ }
     ensures { λ r. ⌜ r ≡ collectedOf ours bridge command at word ⌝ }
 {
     if state::is_due(command, at.got) {

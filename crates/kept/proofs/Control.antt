@@ -20,8 +20,8 @@ use Rattle.answers.specs.Answers.{answerWith, dataAnswered, registerAnswered, a
 use Rattle.plan.specs.Plan.{noAnswer, plain, settled, concluded, performed}
 use Rattle.writes.specs.declared.Effects.{Effects}
 use Rattle.forwards.specs.declared.Granted.{Granted}
-use Rattle.forwards.specs.declared.Fwd.{Fwd}
-use Rattle.forwards.specs.declared.Progress.{Progress}
+use Rattle.state.specs.declared.Fwd.{Fwd}
+use Rattle.state.specs.declared.Progress.{Progress}
 use Rattle.plan.specs.declared.Plan.{Plan}
 use Rattle.plan.specs.declared.Receive.{Receive}
 use Rattle.plan.specs.declared.Receive.the-variants.{LeaveRx, PopRx, StopRx, EmptyRx, ResetRx}

@@ -15,7 +15,7 @@ use Rattle.closing.specs.Closing.{wrongCrc, forwardClosed, registersClosed, rea
 use Rattle.release.specs.Release.{cutDeed, cut}
 use Rattle.answers.specs.Answers.{answerWith, dataAnswered, registerAnswered, answered}
 use Rattle.forwards.specs.declared.Granted.{Granted}
-use Rattle.forwards.specs.declared.Progress.{Progress}
+use Rattle.state.specs.declared.Progress.{Progress}
 use Rattle.plan.specs.declared.Plan.{Plan}
 use Rattle.forwards.specs.declared.Wish.{Wish}
 use Rattle.state.specs.Facts.{HostFit, Doable}

@@ -9,15 +9,17 @@ use Rattle.base.specs.Pick.{pick, pick-keeps, and-l, and-r}
 use Rattle.command.specs.declared.Command.the-variants.{Forward}
 use Rattle.forwards.specs.Forward.{wish, granted, asksStore, guard, mineAfter, enqueues, clears}
 use Rattle.forwards.specs.declared.Granted.{Granted}
-use Rattle.state.specs.Frame.{dataWords, mineOf, owedBy, toCome, forwardSound, collectSound, phaseSound}
+use Rattle.state.specs.Frame.{fwd, progress, dataWords, mineOf, owedBy, toCome, forwardSound, collectSound, phaseSound}
 use Rattle.state.specs.Queue.{newPlace}
 use Rattle.state.specs.Rings.{ringAfter}
 use Rattle.state.specs.Sending.{stored, done}
 use Rattle.state.specs.declared.Deed.{Deed}
 use Rattle.state.specs.declared.Deed.the-variants.{Leave, Enqueue, ClearAll}
+use Rattle.state.specs.declared.Fwd.{Fwd}
 use Rattle.state.specs.declared.Note.the-variants.{Done, TxFull, QueueFull}
 use Rattle.state.specs.declared.Phase.{Phase}
 use Rattle.state.specs.declared.Phase.the-variants.{Idle, Collecting}
+use Rattle.state.specs.declared.Progress.{Progress}
 use Rattle.state.specs.declared.Sending.{Sending}
 use Rattle.state.specs.declared.Store.{Store}
 use Rattle.state.specs.declared.Store.the-variants.{Keep, Put}
@@ -35,17 +37,16 @@ pub record Leaves (s : Sending) (st : Store) (d : Deed) (p : Phase) : Type 0 whe
   pub asks : Asks s d
 
 -- the rules of a forward that is collected
-pub record ForwardFit (crc : Bool) (words ends got mine : ℕ) (released blocked : Bool) : Type 0 where
-  pub come : got ≤ words
-  pub words-most : words ≤ 4096
-  pub ends-most : ends ≤ 127
-  pub own : mine ≡ pick (released || blocked) 0 got
-  pub unchecked : not (released && crc) ≡ true
-  pub timely : (crc || released || blocked || ltb got words || (eqb words 0 && eqb ends 0)) ≡ true
+pub record ForwardFit (f : Fwd) (at : Progress) : Type 0 where
+  pub come : at .got ≤ f .words
+  pub words-most : f .words ≤ 4096
+  pub ends-most : f .ends ≤ 127
+  pub own : at .mine ≡ pick (at .released || at .blocked) 0 (at .got)
+  pub unchecked : not (at .released && f .crc) ≡ true
+  pub timely : (f .crc || at .released || at .blocked || ltb (at .got) (f .words) || (eqb (f .words) 0 && eqb (f .ends) 0)) ≡ true
 
-pub forward-facts : (crc : Bool) (words ends got mine : ℕ) (released blocked : Bool) → forwardSound crc words ends got mine released blocked ≡ true
-    → ForwardFit crc words ends got mine released blocked
-forward-facts crc words ends got mine released blocked s = record {
+pub forward-facts : (f : Fwd) (at : Progress) → forwardSound f at ≡ true → ForwardFit f at
+forward-facts f at s = record {
   come = leb-true _ _ (search (and-l, and-r) depth 9);
   words-most = leb-true _ _ (search (and-l, and-r) depth 9);
   ends-most = leb-true _ _ (search (and-l, and-r) depth 9);
@@ -54,11 +55,10 @@ forward-facts crc words ends got mine released blocked s = record {
   timely = search (and-l, and-r) depth 9;
 }
 
-pub forward-passes : (crc : Bool) (words ends got mine : ℕ) (released blocked : Bool) → ForwardFit crc words ends got mine released blocked
-    → forwardSound crc words ends got mine released blocked ≡ true
-forward-passes crc words ends got mine released blocked f =
-    let n : eqb mine (pick (released || blocked) 0 got) ≡ true = eq-eqb _ _ (f .own) in
-    rw (le-leb _ _ (f .come), le-leb _ _ (f .words-most), le-leb _ _ (f .ends-most), n, f .unchecked, f .timely)
+pub forward-passes : (f : Fwd) (at : Progress) → ForwardFit f at → forwardSound f at ≡ true
+forward-passes f at k =
+    let n : eqb (at .mine) (pick (at .released || at .blocked) 0 (at .got)) ≡ true = eq-eqb _ _ (k .own) in
+    rw (le-leb _ _ (k .come), le-leb _ _ (k .words-most), le-leb _ _ (k .ends-most), n, k .unchecked, k .timely)
 
 -- a place as a forward queues it
 fresh-waits : (words ends : ℕ) (reads : Bool) → 0 < words + ends → waits (newPlace words ends reads) ≡ true
@@ -81,21 +81,21 @@ module _ (s : Sending) (crc : Bool) (words ends : ℕ) (reads : Bool) where
       Leaves s (g .store) (g .deed)
       (Collects got sum (mineAfter (g .deed) (g .store) mine released) (enqueues (g .deed) || released) (clears (g .deed) || blocked))
 
-  abbrev Fit : ℕ → ℕ → Bool → Bool → Type 0
-  Fit got mine released blocked = ForwardFit crc words ends got mine released blocked
+  abbrev Fit : ℕ → ℕ → ℕ → Bool → Bool → Type 0
+  Fit got sum mine released blocked = ForwardFit (fwd crc words ends reads) (progress got sum mine released blocked)
 
   abbrev Owes : ℕ → ℕ → Bool → Bool → Type 0
   Owes got mine released blocked = SendRules s (owedBy (Forward crc words ends reads) got released blocked) mine
 
   -- a blocked forward's word is dropped
-  word-dropped : (got sum mine : ℕ) (released : Bool) → Owes got mine released true → Fit got mine released true → got < words
+  word-dropped : (got sum mine : ℕ) (released : Bool) → Owes got mine released true → Fit got sum mine released true → got < words
       → Leaves s Keep Leave (Collects (got + 1) sum mine released true)
   unfolding stored done ringAfter toCome mineOf phaseSound collectSound pick
   word-dropped got sum mine released r f h =
       let none : mine ≡ 0 = rw (or-true released) at (f .own) in
       record {
         sending = rw (blocked-brings-none _ (got + 1) released) (rw (blocked-brings-none _ got released) at r);
-        phase = forward-passes crc words ends (got + 1) mine released true (record {
+        phase = forward-passes (fwd crc words ends reads) (progress (got + 1) sum mine released true) (record {
           come = omega arith;
           words-most = f .words-most;
           ends-most = f .ends-most;
@@ -112,7 +112,7 @@ module _ (s : Sending) (crc : Bool) (words ends : ℕ) (reads : Bool) where
   unfolding toCome mineOf phaseSound collectSound
   forward-cleared st got sum c m released r h w e u = record {
     sending = rw (blocked-brings-none (Forward crc words ends reads) got released) (rules-cleared s st c m r);
-    phase = forward-passes crc words ends got 0 released true (record {
+    phase = forward-passes (fwd crc words ends reads) (progress got sum 0 released true) (record {
       come = h;
       words-most = w;
       ends-most = e;
@@ -124,14 +124,14 @@ module _ (s : Sending) (crc : Bool) (words ends : ℕ) (reads : Bool) where
   }
 
   -- a word of a released forward goes to its place
-  word-sent : (got sum mine w : ℕ) → Owes got mine true false → Fit got mine true false → got < words → s .tx .count < 512
+  word-sent : (got sum mine w : ℕ) → Owes got mine true false → Fit got sum mine true false → got < words → s .tx .count < 512
       → Leaves s (Put w) Leave (Collects (got + 1) sum mine true false)
   unfolding done toCome mineOf phaseSound collectSound owedBy pick
   word-sent got sum mine w r f h c =
       let e : words - got ≡ suc (words - (got + 1)) = omega arith in
       record {
         sending = rules-put-owed s w (words - (got + 1)) mine (rw e at r) c;
-        phase = forward-passes crc words ends (got + 1) mine true false (record {
+        phase = forward-passes (fwd crc words ends reads) (progress (got + 1) sum mine true false) (record {
           come = omega arith;
           words-most = f .words-most;
           ends-most = f .ends-most;
@@ -143,12 +143,12 @@ module _ (s : Sending) (crc : Bool) (words ends : ℕ) (reads : Bool) where
       }
 
   -- a word of one that is not released is its own
-  word-gathered : (got sum mine w : ℕ) → Owes got mine false false → Fit got mine false false → got < words → s .tx .count < 512
+  word-gathered : (got sum mine w : ℕ) → Owes got mine false false → Fit got sum mine false false → got < words → s .tx .count < 512
       → (crc || ltb (got + 1) words) ≡ true → Leaves s (Put w) Leave (Collects (got + 1) sum (mine + 1) false false)
   unfolding done toCome mineOf phaseSound collectSound owedBy pick
   word-gathered got sum mine w r f h c t = record {
     sending = rules-put-mine s w mine r c;
-    phase = forward-passes crc words ends (got + 1) (mine + 1) false false (record {
+    phase = forward-passes (fwd crc words ends reads) (progress (got + 1) sum (mine + 1) false false) (record {
       come = omega arith;
       words-most = f .words-most;
       ends-most = f .ends-most;
@@ -164,7 +164,7 @@ module _ (s : Sending) (crc : Bool) (words ends : ℕ) (reads : Bool) where
       in-time false e = rw e
 
   -- a word that releases
-  word-queued : (got sum mine w : ℕ) → Owes got mine false false → Fit got mine false false → got < words → s .tx .count < 512
+  word-queued : (got sum mine w : ℕ) → Owes got mine false false → Fit got sum mine false false → got < words → s .tx .count < 512
       → s .queue .used < 8 → crc ≡ false → Leaves s (Put w) (Enqueue (newPlace words ends reads)) (Collects (got + 1) sum 0 true false)
   unfolding toCome mineOf phaseSound collectSound owedBy pick newPlace
   word-queued got sum mine w r f h c u k = record {
@@ -173,7 +173,7 @@ module _ (s : Sending) (crc : Bool) (words ends : ℕ) (reads : Bool) where
         (f .ends-most)
         (omega (arith, f .own))
         (omega arith);
-    phase = forward-passes crc words ends (got + 1) 0 true false (record {
+    phase = forward-passes (fwd crc words ends reads) (progress (got + 1) sum 0 true false) (record {
       come = omega arith;
       words-most = f .words-most;
       ends-most = f .ends-most;
@@ -185,7 +185,7 @@ module _ (s : Sending) (crc : Bool) (words ends : ℕ) (reads : Bool) where
   }
 
   -- a data word, whether it releases or not
-  pub word-goes : (got sum mine w : ℕ) (blocked released t : Bool) → Owes got mine released blocked → Fit got mine released blocked → got < words
+  pub word-goes : (got sum mine w : ℕ) (blocked released t : Bool) → Owes got mine released blocked → Fit got sum mine released blocked → got < words
       → (t ≡ true → (crc ≡ false) × (released ≡ false)) → (t ≡ false → released ≡ false → (crc || ltb (got + 1) words) ≡ true)
       → Goes (got + 1) sum mine released blocked (guard blocked (s .tx .count) (s .queue .used) (wish (Put w) t (newPlace words ends reads)))
   unfolding guard asksStore pick mineAfter enqueues clears
@@ -214,7 +214,7 @@ module _ (s : Sending) (crc : Bool) (words ends : ℕ) (reads : Bool) where
   unfolding stored done ringAfter toCome mineOf phaseSound collectSound owedBy pick
   begun-waits sum blocked r w e t = record {
     sending = r;
-    phase = forward-passes crc words ends 0 0 false blocked (record {
+    phase = forward-passes (fwd crc words ends reads) (progress 0 sum 0 false blocked) (record {
       come = omega arith;
       words-most = w;
       ends-most = e;
@@ -234,7 +234,7 @@ module _ (s : Sending) (crc : Bool) (words ends : ℕ) (reads : Bool) where
   unfolding toCome mineOf phaseSound collectSound owedBy pick newPlace stored ringAfter
   begun-queued sum r w e n u k = record {
     sending = rules-enqueued s (newPlace words ends reads) (words - 0) 0 r u (omega arith) e (omega arith) (omega arith);
-    phase = forward-passes crc words ends 0 0 true false (record {
+    phase = forward-passes (fwd crc words ends reads) (progress 0 sum 0 true false) (record {
       come = omega arith;
       words-most = omega arith;
       ends-most = e;

@@ -11,7 +11,7 @@ use Rattle.command.specs.Layouts.{Layout}
 use Rattle.command.specs.declared.Command.{Command}
 use Rattle.command.specs.declared.Command.the-variants.{Filler, Malformed, Forward, DataRead, RegisterWrite, RegisterRead, SoftReset}
 use Rattle.forwards.specs.Forward.{faulted, forwarded, forwardWord, forwardBegun}
-use Rattle.forwards.specs.declared.Progress.{Progress}
+use Rattle.state.specs.declared.Progress.{Progress}
 use Rattle.host.specs.Frames.{collects, opened, dataWord, plannedIn, planned}
 use Rattle.release.specs.Release.{releasedIn}
 use Rattle.writes.specs.Writes.{effected, withWrite, writeAll, noEffects, heldWord, registerWord}
@@ -20,10 +20,11 @@ use Rattle.release.specs.Release.{cutDeed, cut}
 use Rattle.answers.specs.Answers.{answerWith, dataAnswered, registerAnswered, answered}
 use Rattle.plan.specs.Plan.{performed}
 use Rattle.writes.specs.declared.Effects.{Effects}
+use Rattle.host.proofs.Sound.{summed-sound}
 use Rattle.registers.proofs.Laws.{write-sound}
 use Rattle.registers.specs.Registers.{regsSound, blocking}
 use Rattle.registers.specs.declared.Control.{Control}
-use Rattle.state.specs.Frame.{dataWords, mineOf, owedBy, toCome, collectSound, replySound, phaseSound}
+use Rattle.state.specs.Frame.{fwd, progress, dataWords, mineOf, owedBy, toCome, collectSound, replySound, phaseSound}
 use Rattle.state.specs.Rings.{ringAfter}
 use Rattle.state.specs.Sending.{idle, stored, done}
 use Rattle.state.specs.declared.Bridge.{Bridge}
@@ -68,7 +69,8 @@ whole-owes-none : (c : Command) (got : ℕ) (released blocked : Bool) → dataWo
 unfolding owedBy
 whole-owes-none c got released blocked h = pick-keeps (λ (n : ℕ). n ≡ 0) _ _ _ (λ k. omega arith) (λ k. refl)
 
-module _ (crc : Bool) (words ends got mine : ℕ) (released blocked : Bool) (f : ForwardFit crc words ends got mine released blocked) where
+module _ (crc : Bool) (words ends : ℕ) (reads : Bool) (got sum mine : ℕ) (released blocked : Bool)
+    (f : ForwardFit (fwd crc words ends reads) (progress got sum mine released blocked)) where
   blocked-has-none : blocked ≡ true → mine ≡ 0
   unfolding pick
   blocked-has-none e = go released blocked (f .own) e
@@ -112,16 +114,17 @@ module _ (crc : Bool) (words ends got mine : ℕ) (released blocked : Bool) (f :
       go false false o u z = omega (arith, f .come)
 
 -- whatever is released has no words of its own
-released-own : (c : Command) (got mine : ℕ) (released blocked : Bool) → collectSound c got mine released blocked ≡ true → released ≡ true → mine ≡ 0
+released-own : (c : Command) (got sum mine : ℕ) (released blocked : Bool) → collectSound c (progress got sum mine released blocked) ≡ true
+    → released ≡ true → mine ≡ 0
 unfolding collectSound
-released-own Filler got mine released blocked s e = cc
-released-own Malformed got mine released blocked s e = cc
-released-own (Forward crc words ends reads) got mine released blocked s e =
-    released-has-none crc words ends got mine released blocked (forward-facts crc words ends got mine released blocked s) e
-released-own (DataRead crc words) got mine released blocked s e = eqb-true mine 0 (search (and-l, and-r))
-released-own (RegisterWrite crc address count) got mine released blocked s e = eqb-true mine 0 (search (and-l, and-r))
-released-own (RegisterRead crc address count) got mine released blocked s e = eqb-true mine 0 (search (and-l, and-r))
-released-own SoftReset got mine released blocked s e = eqb-true mine 0 (search (and-l, and-r))
+released-own Filler got sum mine released blocked s e = cc
+released-own Malformed got sum mine released blocked s e = cc
+released-own (Forward crc words ends reads) got sum mine released blocked s e =
+    released-has-none crc words ends reads got sum mine released blocked (forward-facts _ _ s) e
+released-own (DataRead crc words) got sum mine released blocked s e = eqb-true mine 0 (search (and-l, and-r))
+released-own (RegisterWrite crc address count) got sum mine released blocked s e = eqb-true mine 0 (search (and-l, and-r))
+released-own (RegisterRead crc address count) got sum mine released blocked s e = eqb-true mine 0 (search (and-l, and-r))
+released-own SoftReset got sum mine released blocked s e = eqb-true mine 0 (search (and-l, and-r))
 
 -- one that its command word does not release is named _CRC, has words to come, or has nothing to send
 unreleased-waits : (crc : Bool) (words ends : ℕ) → (not crc && eqb words 0 && ltb 0 ends) ≡ false
@@ -201,7 +204,8 @@ module _ (b : Bridge) (g : regsSound (b .control .regs) ≡ true) where
     ending = h;
   }
 
-  collects-rules : (c : Command) (sum : ℕ) → collectSound c 0 0 false false ≡ true → SendRules (b .sending) 0 0 → PlanRules b (collects b c sum)
+  collects-rules : (c : Command) (sum : ℕ) → collectSound c (progress 0 sum 0 false false) ≡ true → SendRules (b .sending) 0 0
+      → PlanRules b (collects b c sum)
   unfolding toCome mineOf owedBy pick phaseSound
   collects-rules c sum h r = record {
     leaves = stays (b .sending) (Collecting c 0 sum 0 false false) r (record { owes = refl; owns = refl; fits = h });
@@ -238,7 +242,7 @@ module _ (b : Bridge) (g : regsSound (b .control .regs) ≡ true) where
       (λ h. effected-rules p _ false r n (write-sound (b .control) _ (address + got) w g) (λ e. cc))
 
   bare-write : (crc : Bool) (address count got sum mine : ℕ) (released blocked : Bool) → got < count
-      → collectSound (RegisterWrite crc address count) got mine released blocked ≡ true
+      → collectSound (RegisterWrite crc address count) (progress got sum mine released blocked) ≡ true
       → Bare (Collecting (RegisterWrite crc address count) (got + 1) sum mine released blocked)
   unfolding toCome mineOf phaseSound collectSound
   bare-write crc address count got sum mine released blocked h s =
@@ -253,7 +257,7 @@ module _ (b : Bridge) (g : regsSound (b .control .regs) ≡ true) where
       }
 
   data-word-rules : (c : Command) (at : Progress) (w : ℕ) → SendRules (b .sending) (owedBy c (at .got) (at .released) (at .blocked)) (at .mine)
-      → collectSound c (at .got) (at .mine) (at .released) (at .blocked) ≡ true → at .got < dataWords c → PlanRules b (dataWord b c at w)
+      → collectSound c at ≡ true → at .got < dataWords c → PlanRules b (dataWord b c at w)
   unfolding dataWord forwardWord forwarded
   data-word-rules Filler at w r s h = absurd (omega arith)
   data-word-rules Malformed at w r s h = absurd (omega arith)
@@ -263,7 +267,7 @@ module _ (b : Bridge) (g : regsSound (b .control .regs) ≡ true) where
         leaves =
             word-goes (b .sending) crc words ends reads (at .got) (at .crc) (at .mine) w (at .blocked) (at .released)
             (not crc && not (at .released) && (full || eqb (at .got + 1) words)) r
-            (forward-facts crc words ends (at .got) (at .mine) (at .released) (at .blocked) (unfold collectSound in s))
+            (forward-facts (fwd crc words ends reads) at (unfold collectSound in s))
             h
             (λ t. (not-true crc (search (and-l, and-r)), not-true (at .released) (search (and-l, and-r))))
             (λ t k. unreleasing crc (at .released) full (at .got + 1) words (omega arith) t k);
@@ -287,15 +291,15 @@ module _ (b : Bridge) (g : regsSound (b .control .regs) ≡ true) where
       pick-keeps (PlanRules b) crc _ _ (λ h. record { leaves = taken-back (b .sending) mine r; regs = g; ending = λ e. refl })
       (λ h. record { leaves = stays (b .sending) Idle (rules-none (b .sending) 0 mine r refl (m h)) bare-idle; regs = g; ending = λ e. refl })
 
-  forward-closed-rules : (crc : Bool) (words ends : ℕ) (reads : Bool) (got mine : ℕ) (released blocked : Bool) → SendRules (b .sending) 0 mine
-      → ForwardFit crc words ends got mine released blocked → words ≤ got → PlanRules b (forwardClosed b crc words ends reads blocked)
+  forward-closed-rules : (crc : Bool) (words ends : ℕ) (reads : Bool) (got sum mine : ℕ) (released blocked : Bool) → SendRules (b .sending) 0 mine
+      → ForwardFit (fwd crc words ends reads) (progress got sum mine released blocked) → words ≤ got → PlanRules b (forwardClosed b crc words ends reads blocked)
   unfolding forwardClosed
-  forward-closed-rules crc words ends reads got mine released blocked r f h = record {
+  forward-closed-rules crc words ends reads got sum mine released blocked r f h = record {
     leaves =
         closed-goes (b .sending) crc words ends reads mine blocked (crc && not (eqb words 0 && eqb ends 0)) r (f .words-most) (f .ends-most)
-        (blocked-has-none crc words ends got mine released blocked f)
-        (unqueued-has-none crc words ends got mine released blocked f h)
-        (λ t k. queued-has-all crc words ends got mine released blocked f h (and-l _ _ t) k)
+        (blocked-has-none crc words ends reads got sum mine released blocked f)
+        (unqueued-has-none crc words ends reads got sum mine released blocked f h)
+        (λ t k. queued-has-all crc words ends reads got sum mine released blocked f h (and-l _ _ t) k)
         (λ t. has-some words ends (and-r crc _ t));
     regs = rw (faulted-regs (b .control)) g;
     ending = λ e. refl;
@@ -327,23 +331,23 @@ module _ (b : Bridge) (g : regsSound (b .control .regs) ≡ true) where
       pick-keeps (PlanRules b) _ _ _ (λ h. record { leaves = reset-rules r h; regs = g; ending = λ e. refl })
       (λ h. record { leaves = stays (b .sending) Idle r bare-idle; regs = g; ending = λ e. refl })
 
-  crc-due-rules : (l : Layout) (c : Command) (got mine : ℕ) (released blocked right : Bool)
-      → SendRules (b .sending) (owedBy c got released blocked) mine → collectSound c got mine released blocked ≡ true → dataWords c ≤ got
+  crc-due-rules : (l : Layout) (c : Command) (got sum mine : ℕ) (released blocked right : Bool)
+      → SendRules (b .sending) (owedBy c got released blocked) mine → collectSound c (progress got sum mine released blocked) ≡ true → dataWords c ≤ got
       → PlanRules b (crcDue l b c mine blocked right)
   unfolding crcDue collectSound replySound
-  crc-due-rules l c got mine released blocked right r s h = go c (rw (whole-owes-none c got released blocked h) at r) s h
+  crc-due-rules l c got sum mine released blocked right r s h = go c (rw (whole-owes-none c got released blocked h) at r) s h
     where
       bare : eqb mine 0 ≡ true → SendRules (b .sending) 0 mine → SendRules (b .sending) 0 0
       bare m k = rules-none (b .sending) 0 mine k refl (eqb-true mine 0 m)
 
-      go : (c : Command) → SendRules (b .sending) 0 mine → collectSound c got mine released blocked ≡ true → dataWords c ≤ got
+      go : (c : Command) → SendRules (b .sending) 0 mine → collectSound c (progress got sum mine released blocked) ≡ true → dataWords c ≤ got
           → PlanRules b (crcDue l b c mine blocked right)
       go Filler k s h = never false s refl
       go Malformed k s h = never false s refl
       go (Forward crc words ends reads) k s h =
-          let f : ForwardFit crc words ends got mine released blocked = forward-facts crc words ends got mine released blocked s in
-          pick-keeps (PlanRules b) right _ _ (λ e. forward-closed-rules crc words ends reads got mine released blocked k f h)
-          (λ e. wrong-rules crc mine k (λ c. unqueued-has-none crc words ends got mine released blocked f h (rw c)))
+          let f : ForwardFit (fwd crc words ends reads) (progress got sum mine released blocked) = forward-facts _ _ s in
+          pick-keeps (PlanRules b) right _ _ (λ e. forward-closed-rules crc words ends reads got sum mine released blocked k f h)
+          (λ e. wrong-rules crc mine k (λ c. unqueued-has-none crc words ends reads got sum mine released blocked f h (rw c)))
       go (DataRead crc words) k s h =
           read-closed-rules l crc right (Data words) (bare (search (and-l, and-r)) k)
           (and-both (ltb 0 words) (leb words 256) (search (and-l, and-r)) (search (and-l, and-r)))
@@ -389,19 +393,19 @@ module _ (b : Bridge) (g : regsSound (b .control .regs) ≡ true) where
   unfolding plannedIn toCome mineOf phaseSound
   planned-rules l f Idle w x r s = opened-rules (l .decode w) _ (f w) r
   planned-rules l f (Collecting command got sum mine released blocked) w x r s =
-      pick-keeps (PlanRules b) _ _ _ (λ h. data-word-rules command _ w r s (ltb-true _ _ h))
-      (λ h. crc-due-rules l command got mine released blocked _ r s (ltb-false _ _ h))
+      pick-keeps (PlanRules b) _ _ _ (λ h. data-word-rules command _ w r (summed-sound command _ _ s) (ltb-true _ _ h))
+      (λ h. crc-due-rules l command got sum mine released blocked _ r s (ltb-false _ _ h))
   planned-rules l f (Answering reply sum) w x r s = answered-rules l reply sum x r s
   planned-rules l f Discarding w x r s = record { leaves = stays (b .sending) Discarding r bare-discarding; regs = g; ending = λ e. cc }
 
-  cut-leaves : (c : Command) (got mine : ℕ) (released blocked : Bool) → SendRules (b .sending) (owedBy c got released blocked) mine
-      → collectSound c got mine released blocked ≡ true → Leaves (b .sending) Keep (cutDeed c got mine released) Idle
+  cut-leaves : (c : Command) (got sum mine : ℕ) (released blocked : Bool) → SendRules (b .sending) (owedBy c got released blocked) mine
+      → collectSound c (progress got sum mine released blocked) ≡ true → Leaves (b .sending) Keep (cutDeed c got mine released) Idle
   unfolding cutDeed
-  cut-leaves c got mine released blocked r s =
+  cut-leaves c got sum mine released blocked r s =
       pick-keeps (λ (d : Deed). Leaves (b .sending) Keep d Idle) released _ _
       (λ e. pick-keeps (λ (d : Deed). Leaves (b .sending) Keep d Idle) _ _ _ (λ h. cleared (b .sending) Idle _ _ r bare-idle)
       (λ h. stays (b .sending) Idle
-      (rules-none (b .sending) _ mine r (whole-owes-none c got released blocked (ltb-false _ _ h)) (released-own c got mine released blocked s e))
+      (rules-none (b .sending) _ mine r (whole-owes-none c got released blocked (ltb-false _ _ h)) (released-own c got sum mine released blocked s e))
       bare-idle))
       (λ e. taken-back (b .sending) mine (rw (unreleased-owes-none c got released blocked e) at r))
 
@@ -409,7 +413,7 @@ module _ (b : Bridge) (g : regsSound (b .control .regs) ≡ true) where
   unfolding releasedIn cut toCome mineOf phaseSound
   released-rules Idle r s = record { leaves = stays (b .sending) Idle r bare-idle; regs = g; ending = λ e. cc }
   released-rules (Collecting command got sum mine released blocked) r s = record {
-    leaves = cut-leaves command got mine released blocked r s;
+    leaves = cut-leaves command got sum mine released blocked r s;
     regs = g;
     ending = λ e. cc;
   }

@@ -11,20 +11,21 @@ use Rattle.command.specs.declared.Command.the-variants.{Filler, Malformed, Forw
 use Rattle.rules.proofs.Facts.{sound-facts as facts, sound-from, some-waiting, piece-gone, piece-left, piece-ends, busy-used}
 use Rattle.rules.specs.Facts.{Sound}
 use Rattle.rules.specs.Sound.{sound}
-use Rattle.state.specs.Frame.{mineOf, owedBy, toCome, forwardSound, collectSound, phaseSound}
+use Rattle.state.specs.Frame.{fwd, progress, mineOf, owedBy, toCome, forwardSound, collectSound, phaseSound}
 use Rattle.state.specs.Facts.{QueueFit}
 use Rattle.state.specs.declared.Bridge.{Bridge}
+use Rattle.state.specs.declared.Fwd.{Fwd}
 use Rattle.state.specs.declared.Sender.{Sender}
 use Rattle.state.specs.declared.Phase.{Phase}
 use Rattle.state.specs.declared.Phase.the-variants.{Idle, Collecting, Answering, Discarding}
 use Rattle.kept.specs.Rules.{BridgeRules}
 
 -- a frame that has words to bring is released, and has none of its own in TX
-forward-apart : (command : Command) (crc : Bool) (words ends got mine : ℕ) (released blocked : Bool)
-    → forwardSound crc words ends got mine released blocked ≡ true → 0 < owedBy command got released blocked → mine ≡ 0
+forward-apart : (command : Command) (f : Fwd) (got sum mine : ℕ) (released blocked : Bool)
+    → forwardSound f (progress got sum mine released blocked) ≡ true → 0 < owedBy command got released blocked → mine ≡ 0
 unfolding owedBy pick
-forward-apart command crc words ends got mine true blocked s h = eqb-true mine 0 (search (and-l, and-r))
-forward-apart command crc words ends got mine false blocked s h = absurd (omega arith)
+forward-apart command f got sum mine true blocked s h = eqb-true mine 0 (search (and-l, and-r))
+forward-apart command f got sum mine false blocked s h = absurd (omega arith)
 
 pub phase-apart : (p : Phase) → phaseSound p ≡ true → 0 < toCome p → mineOf p ≡ 0
 unfolding phaseSound collectSound toCome mineOf
@@ -32,7 +33,7 @@ phase-apart Idle s h = refl
 phase-apart (Collecting Filler got sum mine released blocked) s h = cc
 phase-apart (Collecting Malformed got sum mine released blocked) s h = cc
 phase-apart (Collecting (Forward crc words ends reads) got sum mine released blocked) s h =
-    forward-apart (Forward crc words ends reads) crc words ends got mine released blocked s h
+    forward-apart (Forward crc words ends reads) (fwd crc words ends reads) got sum mine released blocked s h
 phase-apart (Collecting (DataRead crc words) got sum mine released blocked) s h = eqb-true mine 0 (search (and-l, and-r))
 phase-apart (Collecting (RegisterWrite crc address count) got sum mine released blocked) s h = eqb-true mine 0 (search (and-l, and-r))
 phase-apart (Collecting (RegisterRead crc address count) got sum mine released blocked) s h = eqb-true mine 0 (search (and-l, and-r))

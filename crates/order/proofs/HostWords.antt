@@ -11,7 +11,7 @@ use Rattle.command.specs.Layouts.{Layout}
 use Rattle.command.specs.declared.Command.{Command}
 use Rattle.command.specs.declared.Command.the-variants.{Filler, Malformed, Forward, DataRead, RegisterWrite, RegisterRead, SoftReset}
 use Rattle.registers.specs.Registers.{blocking}
-use Rattle.state.specs.Frame.{dataWords}
+use Rattle.state.specs.Frame.{fwd, progress, dataWords}
 use Rattle.state.specs.declared.Bridge.{Bridge}
 use Rattle.state.specs.declared.Deed.{Deed}
 use Rattle.state.specs.declared.Deed.the-variants.{Leave, ClearAll}
@@ -22,13 +22,13 @@ use Rattle.state.specs.declared.Reply.{Reply}
 use Rattle.state.specs.declared.Reply.the-variants.{Status, Data, Registers, Check}
 use Rattle.state.specs.declared.Store.{Store}
 use Rattle.state.specs.declared.Store.the-variants.{Keep, Put}
-use Rattle.forwards.specs.Forward.{fwd, justBegun, wordCounted, asksStore, granted, guard, clears, forwarded, forwardWord, forwardBegun}
+use Rattle.forwards.specs.Forward.{justBegun, wordCounted, asksStore, granted, guard, clears, forwarded, forwardWord, forwardBegun}
 use Rattle.host.specs.Frames.{opened, dataWord, plannedIn}
 use Rattle.writes.specs.Writes.{heldWord, registerWord}
 use Rattle.closing.specs.Closing.{wrongCrc, forwardClosed, registersClosed, readClosed, resetClosed, crcDue}
 use Rattle.answers.specs.Answers.{answerWith, dataAnswered, registerAnswered, answered}
 use Rattle.forwards.specs.declared.Granted.{Granted}
-use Rattle.forwards.specs.declared.Progress.{Progress}
+use Rattle.state.specs.declared.Progress.{Progress}
 use Rattle.plan.specs.declared.Plan.{Plan}
 use Rattle.forwards.specs.declared.Wish.{Wish}
 use Rattle.order.specs.Accepted.{Log, came, accepts, collects, joined, settle}
@@ -176,9 +176,6 @@ module _ (l : Layout) (b : Bridge) (g : Log) (hs : List ℕ) where
 -- A word in a forward, hs before it.
 module _ (l : Layout) (b : Bridge) (g : Log) (hs : List ℕ) (w : ℕ) (crc : Bool) (most ends : ℕ) (reads : Bool) (got : ℕ) (blocked : Bool)
     (h : Open l crc most ends reads got blocked g hs) where
-  abbrev so-far : ℕ → ℕ → Bool → Progress
-  so-far sum mine released = record { got = got; crc = sum; mine = mine; released = released; blocked = blocked }
-
   module _ (d : got < most) where
     dropped-word : (sum mine : ℕ) (released now : Bool) (deed : Deed) → now ≡ true
         → After l g (hs ++ (w ∷ [])) (Collecting (Forward crc most ends reads) (got + 1) sum mine released now) Keep deed false
@@ -220,11 +217,11 @@ module _ (l : Layout) (b : Bridge) (g : Log) (hs : List ℕ) (w : ℕ) (crc : Bo
           ends = λ k. never false k refl;
         }
 
-    forward-word : (sum mine : ℕ) (released : Bool) → AfterBy l g (hs ++ (w ∷ [])) (forwardWord b (fwd crc most ends reads) (so-far sum mine released) w)
+    forward-word : (sum mine : ℕ) (released : Bool) → AfterBy l g (hs ++ (w ∷ [])) (forwardWord b (fwd crc most ends reads) (progress got sum mine released blocked) w)
     unfolding forwardWord forwarded asksStore
     forward-word sum mine released =
         guarded
-        (λ (r : Granted). AfterBy l g (hs ++ (w ∷ [])) (forwarded b (fwd crc most ends reads) (wordCounted (so-far sum mine released)) r))
+        (λ (r : Granted). AfterBy l g (hs ++ (w ∷ [])) (forwarded b (fwd crc most ends reads) (wordCounted (progress got sum mine released blocked)) r))
         _ _ _ _ (λ deed n t. dropped-word sum _ _ _ deed t) (λ deed n t. stored-word (unblocked blocked t) sum _ _ _ deed)
 
   -- the CRC word

@@ -13,7 +13,7 @@ use Rattle.command.specs.Layouts.{Layout}
 use Rattle.command.specs.declared.Command.{Command}
 use Rattle.command.specs.declared.Command.the-variants.{Filler, Malformed, Forward, DataRead, RegisterWrite, RegisterRead, SoftReset}
 use Rattle.registers.specs.Registers.{blocking}
-use Rattle.state.specs.Frame.{dataWords}
+use Rattle.state.specs.Frame.{fwd, progress, dataWords}
 use Rattle.state.specs.declared.Bridge.{Bridge}
 use Rattle.state.specs.declared.Deed.{Deed}
 use Rattle.state.specs.declared.Deed.the-variants.{Leave, ClearAll}
@@ -24,7 +24,7 @@ use Rattle.state.specs.declared.Reply.{Reply}
 use Rattle.state.specs.declared.Reply.the-variants.{Status, Data, Registers, Check}
 use Rattle.state.specs.declared.Sending.{Sending}
 use Rattle.state.specs.declared.Store.the-variants.{Keep, Put}
-use Rattle.forwards.specs.Forward.{fwd, justBegun, wordCounted, asksStore, clears, enqueues, mineAfter, faulted, forwarded, releases, forwardWord, forwardBegun}
+use Rattle.forwards.specs.Forward.{justBegun, wordCounted, asksStore, clears, enqueues, mineAfter, faulted, forwarded, releases, forwardWord, forwardBegun}
 use Rattle.host.specs.Frames.{opened, dataWord, plannedIn, planned}
 use Rattle.release.specs.Release.{releasedIn}
 use Rattle.writes.specs.Writes.{heldWord, registerWord}
@@ -32,7 +32,7 @@ use Rattle.closing.specs.Closing.{closed, wrongCrc, forwardClosed, registersClo
 use Rattle.release.specs.Release.{cutDeed, cut}
 use Rattle.answers.specs.Answers.{answerWith, dataAnswered, registerAnswered, answered}
 use Rattle.forwards.specs.declared.Granted.{Granted}
-use Rattle.forwards.specs.declared.Progress.{Progress}
+use Rattle.state.specs.declared.Progress.{Progress}
 use Rattle.plan.specs.declared.Plan.{Plan}
 use Rattle.plan.specs.declared.Receive.the-variants.{LeaveRx}
 use Rattle.bridge.specs.Runs.{faults, AllSent}
@@ -126,15 +126,12 @@ module _ (b : Bridge) (g : Log) (S K : List ℕ) (spent : Spent b S K) where
 
   -- The words of a forward.
   module _ (crc : Bool) (words ends : ℕ) (reads : Bool) (got sum mine w : ℕ) (small : w < 65536) (due : got < words) where
-    abbrev so-far : Bool → Bool → Progress
-    so-far released blocked = record { got = got; crc = sum; mine = mine; released = released; blocked = blocked }
-
     pending-word : (blocked : Bool) → blocked ≡ false → Pending crc words got mine g S K
-        → Good b g S K (forwardWord b (fwd crc words ends reads) (so-far false blocked) w)
+        → Good b g S K (forwardWord b (fwd crc words ends reads) (progress got sum mine false blocked) w)
     unfolding forwardWord forwarded mineAfter enqueues clears asksStore pick
     pending-word blocked c h a =
         guard-grants
-        (λ (r : Granted). GoesBy (b .sending) g S K (forwarded b (fwd crc words ends reads) (wordCounted (so-far false blocked)) r)) _ _
+        (λ (r : Granted). GoesBy (b .sending) g S K (forwarded b (fwd crc words ends reads) (wordCounted (progress got sum mine false blocked)) r)) _ _
         (Put w) _ _ blocked c
         (λ room t u.
         word-queued (b .sending) g S K crc words ends reads sum blocked c got w small (room refl) due mine h u
@@ -143,24 +140,24 @@ module _ (b : Bridge) (g : Log) (S K : List ℕ) (spent : Spent b S K) where
         (a .no-fault)
       where
         later : (crc : Bool)
-            → releases (fwd crc words ends reads) (wordCounted (so-far false blocked)) (b .control .regs .txfflvl) (b .sending .tx .count + 1) ≡ false
+            → releases (fwd crc words ends reads) (wordCounted (progress got sum mine false blocked)) (b .control .regs .txfflvl) (b .sending .tx .count + 1) ≡ false
             → crc ≡ false → got + 1 ≡ words → words ≡ 0
         later true t f e = never true refl f
         later false t f e =
             absurd (eqb-false (got + 1) words (or-r (leb (b .control .regs .txfflvl + 1) (b .sending .tx .count + 1)) _ t) e)
 
     released-word : (blocked : Bool) → blocked ≡ false → Released crc words got g S K
-        → Good b g S K (forwardWord b (fwd crc words ends reads) (so-far true blocked) w)
+        → Good b g S K (forwardWord b (fwd crc words ends reads) (progress got sum mine true blocked) w)
     unfolding forwardWord forwarded mineAfter enqueues clears asksStore pick
     released-word blocked c h a =
         guard-grants
-        (λ (r : Granted). GoesBy (b .sending) g S K (forwarded b (fwd crc words ends reads) (wordCounted (so-far true blocked)) r)) _ _
+        (λ (r : Granted). GoesBy (b .sending) g S K (forwarded b (fwd crc words ends reads) (wordCounted (progress got sum mine true blocked)) r)) _ _
         (Put w) _ _ blocked c
         (λ room t u. never false (and-r (not crc) false (and-l (not crc && false) _ t)) refl)
         (λ room t. word-released (b .sending) g S K crc words ends reads sum blocked c got w small (room refl) due mine h) (a .no-fault)
 
     forward-word : (released blocked : Bool) → Open crc words got mine released g S K → blocked ≡ false
-        → Good b g S K (forwardWord b (fwd crc words ends reads) (so-far released blocked) w)
+        → Good b g S K (forwardWord b (fwd crc words ends reads) (progress got sum mine released blocked) w)
     unfolding Open
     forward-word true blocked h c = released-word blocked c h
     forward-word false blocked h c = pending-word blocked c h

@@ -6,10 +6,20 @@ use Rattle.base.specs.Pick.{pick}
 use Rattle.command.specs.Layout.{mostWords, mostEnds, mostRead, registersEnd}
 use Rattle.command.specs.declared.Command.{Command}
 use Rattle.command.specs.declared.Command.the-variants.{Filler, Malformed, Forward, DataRead, RegisterWrite, RegisterRead, SoftReset}
+use Rattle.state.specs.declared.Fwd.{Fwd}
 use Rattle.state.specs.declared.Phase.{Phase}
 use Rattle.state.specs.declared.Phase.the-variants.{Idle, Collecting, Answering, Discarding}
+use Rattle.state.specs.declared.Progress.{Progress}
 use Rattle.state.specs.declared.Reply.{Reply}
 use Rattle.state.specs.declared.Reply.the-variants.{Status, Data, Registers, Check}
+
+-- what a forward's command word says
+abbrev pub fwd : Bool → ℕ → ℕ → Bool → Fwd
+fwd crc words ends reads = record { crc = crc; words = words; ends = ends; reads = reads }
+
+-- what an open frame's phase keeps beside its command
+abbrev pub progress : ℕ → ℕ → ℕ → Bool → Bool → Progress
+progress got crc mine released blocked = record { got = got; crc = crc; mine = mine; released = released; blocked = blocked }
 
 -- the data words between the command word and the CRC word: "Reads and the reset carry no data words"
 abbrev pub dataWords : Command → ℕ
@@ -49,21 +59,22 @@ toCome Discarding = 0
 -- Record rules of a frame. A forward's unreleased words are all that came; released or blocked it has none. One that is not named _CRC is
 -- released or blocked at the latest when all data words have come, unless it has nothing to send; one named _CRC is not released while it
 -- collects.
-abbrev pub forwardSound : Bool → ℕ → ℕ → ℕ → ℕ → Bool → Bool → Bool
-forwardSound crc words ends got mine released blocked =
-    leb got words && leb words mostWords && leb ends mostEnds && eqb mine (pick (released || blocked) 0 got) && not (released && crc)
-    && (crc || released || blocked || ltb got words || (eqb words 0 && eqb ends 0))
+abbrev pub forwardSound : Fwd → Progress → Bool
+forwardSound f at =
+    leb (at .got) (f .words) && leb (f .words) mostWords && leb (f .ends) mostEnds && eqb (at .mine) (pick (at .released || at .blocked) 0 (at .got))
+    && not (at .released && f .crc)
+    && (f .crc || at .released || at .blocked || ltb (at .got) (f .words) || (eqb (f .words) 0 && eqb (f .ends) 0))
 
-unfoldable pub collectSound : Command → ℕ → ℕ → Bool → Bool → Bool
-collectSound Filler got mine released blocked = false
-collectSound Malformed got mine released blocked = false
-collectSound (Forward crc words ends reads) got mine released blocked = forwardSound crc words ends got mine released blocked
-collectSound (DataRead crc words) got mine released blocked = eqb got 0 && eqb mine 0 && not released && ltb 0 words && leb words mostRead
-collectSound (RegisterWrite crc address count) got mine released blocked =
-    leb got count && eqb mine 0 && not released && ltb 0 count && leb (address + count) registersEnd
-collectSound (RegisterRead crc address count) got mine released blocked =
-    eqb got 0 && eqb mine 0 && not released && ltb 0 count && leb (address + count) registersEnd
-collectSound SoftReset got mine released blocked = eqb got 0 && eqb mine 0 && not released
+unfoldable pub collectSound : Command → Progress → Bool
+collectSound Filler at = false
+collectSound Malformed at = false
+collectSound (Forward crc words ends reads) at = forwardSound (fwd crc words ends reads) at
+collectSound (DataRead crc words) at = eqb (at .got) 0 && eqb (at .mine) 0 && not (at .released) && ltb 0 words && leb words mostRead
+collectSound (RegisterWrite crc address count) at =
+    leb (at .got) count && eqb (at .mine) 0 && not (at .released) && ltb 0 count && leb (address + count) registersEnd
+collectSound (RegisterRead crc address count) at =
+    eqb (at .got) 0 && eqb (at .mine) 0 && not (at .released) && ltb 0 count && leb (address + count) registersEnd
+collectSound SoftReset at = eqb (at .got) 0 && eqb (at .mine) 0 && not (at .released)
 
 unfoldable pub replySound : Reply → Bool
 replySound (Status w) = true
@@ -73,6 +84,6 @@ replySound Check = true
 
 unfoldable pub phaseSound : Phase → Bool
 phaseSound Idle = true
-phaseSound (Collecting command got crc mine released blocked) = collectSound command got mine released blocked
+phaseSound (Collecting command got crc mine released blocked) = collectSound command (progress got crc mine released blocked)
 phaseSound (Answering reply crc) = replySound reply
 phaseSound Discarding = true

@@ -95,6 +95,23 @@ pub enum Phase {
     Discarding,
 }
 
+// How far an open frame has come: what `Phase::Collecting` keeps beside the command.
+pub struct Progress {
+    pub got: u16,
+    pub crc: u16,
+    pub mine: u16,
+    pub released: bool,
+    pub blocked: bool,
+}
+
+// What a forward's command word says: `Command::Forward`.
+pub struct Fwd {
+    pub crc: bool,
+    pub words: u16,
+    pub ends: u16,
+    pub reads: bool,
+}
+
 // The phase, and the words that REG_WR_CRC holds until its CRC word.
 pub struct Frame {
     pub phase: Phase,
