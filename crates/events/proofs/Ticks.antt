@@ -63,7 +63,8 @@ forward-blocked : (f : Fwd) (got sum mine : ℕ) (released blocked : Bool) → m
     → forwardSound f (progress got sum mine released blocked) ≡ true → forwardSound f (progress got sum mine released true) ≡ true
 forward-blocked f got sum mine released blocked m s =
     let none : eqb mine (pick (released || true) 0 got) ≡ true = rw (or-true released) (unfold pick in eq-eqb mine 0 m) in
-    let now : (f .crc || released || true || ltb got (f .words) || (eqb (f .words) 0 && eqb (f .ends) 0)) ≡ true = rw (or-true (f .crc || released)) in
+    let now : (f .crc || released || true || ltb got (f .words) || (eqb (f .words) 0 && eqb (f .ends) 0)) ≡ true =
+    rw (or-true (f .crc || released)) in
     let within : (leb got (f .words) && leb (f .words) 4096 && leb (f .ends) 127) ≡ true = search (and-l, and-r) in
     let plain : not (released && f .crc) ≡ true = search (and-l, and-r) in
     rw (within, none, plain, now)

@@ -32,7 +32,8 @@ module _ (command : Command) (at : Progress) (s : collectSound command at ≡ tr
       let t : (leb (at .got) count && eqb (at .mine) 0 && not (at .released) && ltb 0 count && leb (address + count) 11) ≡ true = rw h at s in
       leb-true _ _ (search (and-l, and-r) depth 30)
 
-  pub register-room : (crc : Bool) (address count : ℕ) → command ≡ RegisterWrite crc address count → at .got < dataWords command → address + at .got < 11
+  pub register-room : (crc : Bool) (address count : ℕ) → command ≡ RegisterWrite crc address count → at .got < dataWords command
+      → address + at .got < 11
   register-room crc address count h g =
       let l : at .got < count = rw h at g in
       let m : address + count ≤ 11 = register-span crc address count h in

@@ -292,7 +292,8 @@ module _ (b : Bridge) (g : regsSound (b .control .regs) ≡ true) where
       (λ h. record { leaves = stays (b .sending) Idle (rules-none (b .sending) 0 mine r refl (m h)) bare-idle; regs = g; ending = λ e. refl })
 
   forward-closed-rules : (crc : Bool) (words ends : ℕ) (reads : Bool) (got sum mine : ℕ) (released blocked : Bool) → SendRules (b .sending) 0 mine
-      → ForwardFit (fwd crc words ends reads) (progress got sum mine released blocked) → words ≤ got → PlanRules b (forwardClosed b crc words ends reads blocked)
+      → ForwardFit (fwd crc words ends reads) (progress got sum mine released blocked) → words ≤ got
+      → PlanRules b (forwardClosed b crc words ends reads blocked)
   unfolding forwardClosed
   forward-closed-rules crc words ends reads got sum mine released blocked r f h = record {
     leaves =
@@ -332,8 +333,8 @@ module _ (b : Bridge) (g : regsSound (b .control .regs) ≡ true) where
       (λ h. record { leaves = stays (b .sending) Idle r bare-idle; regs = g; ending = λ e. refl })
 
   crc-due-rules : (l : Layout) (c : Command) (got sum mine : ℕ) (released blocked right : Bool)
-      → SendRules (b .sending) (owedBy c got released blocked) mine → collectSound c (progress got sum mine released blocked) ≡ true → dataWords c ≤ got
-      → PlanRules b (crcDue l b c mine blocked right)
+      → SendRules (b .sending) (owedBy c got released blocked) mine → collectSound c (progress got sum mine released blocked) ≡ true
+      → dataWords c ≤ got → PlanRules b (crcDue l b c mine blocked right)
   unfolding crcDue collectSound replySound
   crc-due-rules l c got sum mine released blocked right r s h = go c (rw (whole-owes-none c got released blocked h) at r) s h
     where

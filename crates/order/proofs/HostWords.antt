@@ -217,11 +217,13 @@ module _ (l : Layout) (b : Bridge) (g : Log) (hs : List ℕ) (w : ℕ) (crc : Bo
           ends = λ k. never false k refl;
         }
 
-    forward-word : (sum mine : ℕ) (released : Bool) → AfterBy l g (hs ++ (w ∷ [])) (forwardWord b (fwd crc most ends reads) (progress got sum mine released blocked) w)
+    forward-word : (sum mine : ℕ) (released : Bool)
+        → AfterBy l g (hs ++ (w ∷ [])) (forwardWord b (fwd crc most ends reads) (progress got sum mine released blocked) w)
     unfolding forwardWord forwarded asksStore
     forward-word sum mine released =
         guarded
-        (λ (r : Granted). AfterBy l g (hs ++ (w ∷ [])) (forwarded b (fwd crc most ends reads) (wordCounted (progress got sum mine released blocked)) r))
+        (λ (r : Granted). AfterBy l g (hs ++ (w ∷ []))
+        (forwarded b (fwd crc most ends reads) (wordCounted (progress got sum mine released blocked)) r))
         _ _ _ _ (λ deed n t. dropped-word sum _ _ _ deed t) (λ deed n t. stored-word (unblocked blocked t) sum _ _ _ deed)
 
   -- the CRC word

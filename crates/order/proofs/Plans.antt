@@ -110,7 +110,8 @@ module _ (b : Bridge) (g : Log) (S K : List ℕ) (spent : Spent b S K) where
         → Good b g S K (forwardBegun b (fwd crc k ends reads) sum blocked)
     unfolding forwardBegun forwarded mineAfter enqueues clears asksStore pick
     forward-begun crc k ends reads sum blocked c a =
-        guard-grants (λ (r : Granted). GoesBy (b .sending) g S K (forwarded b (fwd crc k ends reads) (justBegun sum blocked) r)) _ _ Keep _ _ blocked c
+        guard-grants (λ (r : Granted). GoesBy (b .sending) g S K (forwarded b (fwd crc k ends reads) (justBegun sum blocked) r))
+        _ _ Keep _ _ blocked c
         (λ room t u. begun-queued (b .sending) g S K crc k ends reads sum blocked c h u (not-true crc (and-l (not crc) _ (and-l _ (ltb 0 ends) t))))
         (λ room t. begun-pending (b .sending) g S K crc k ends reads sum blocked c h) (a .no-fault)
 
@@ -131,8 +132,8 @@ module _ (b : Bridge) (g : Log) (S K : List ℕ) (spent : Spent b S K) where
     unfolding forwardWord forwarded mineAfter enqueues clears asksStore pick
     pending-word blocked c h a =
         guard-grants
-        (λ (r : Granted). GoesBy (b .sending) g S K (forwarded b (fwd crc words ends reads) (wordCounted (progress got sum mine false blocked)) r)) _ _
-        (Put w) _ _ blocked c
+        (λ (r : Granted). GoesBy (b .sending) g S K (forwarded b (fwd crc words ends reads) (wordCounted (progress got sum mine false blocked)) r))
+        _ _ (Put w) _ _ blocked c
         (λ room t u.
         word-queued (b .sending) g S K crc words ends reads sum blocked c got w small (room refl) due mine h u
         (not-true crc (and-l (not crc) true (and-l (not crc && true) _ t))))
@@ -140,7 +141,8 @@ module _ (b : Bridge) (g : Log) (S K : List ℕ) (spent : Spent b S K) where
         (a .no-fault)
       where
         later : (crc : Bool)
-            → releases (fwd crc words ends reads) (wordCounted (progress got sum mine false blocked)) (b .control .regs .txfflvl) (b .sending .tx .count + 1) ≡ false
+            → releases (fwd crc words ends reads) (wordCounted (progress got sum mine false blocked)) (b .control .regs .txfflvl)
+            (b .sending .tx .count + 1) ≡ false
             → crc ≡ false → got + 1 ≡ words → words ≡ 0
         later true t f e = never true refl f
         later false t f e =
@@ -151,8 +153,8 @@ module _ (b : Bridge) (g : Log) (S K : List ℕ) (spent : Spent b S K) where
     unfolding forwardWord forwarded mineAfter enqueues clears asksStore pick
     released-word blocked c h a =
         guard-grants
-        (λ (r : Granted). GoesBy (b .sending) g S K (forwarded b (fwd crc words ends reads) (wordCounted (progress got sum mine true blocked)) r)) _ _
-        (Put w) _ _ blocked c
+        (λ (r : Granted). GoesBy (b .sending) g S K (forwarded b (fwd crc words ends reads) (wordCounted (progress got sum mine true blocked)) r))
+        _ _ (Put w) _ _ blocked c
         (λ room t u. never false (and-r (not crc) false (and-l (not crc && false) _ t)) refl)
         (λ room t. word-released (b .sending) g S K crc words ends reads sum blocked c got w small (room refl) due mine h) (a .no-fault)
 

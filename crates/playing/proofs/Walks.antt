@@ -71,6 +71,10 @@ module _ (head cells : List ℕ) (t : Bool) (b : Bridge) (o : t ≡ isHead head)
 abbrev from : Bridge → List ℕ → List ℕ → List ℕ → ℕ → End
 from b tx rx cells at = end (partOf b at true) tx rx cells
 
+-- by what it was read as
+abbrev oneBy : End → ℕ → ℕ → Record → End
+oneBy f kind value r = judged r (λ (e : Event). lineAt kind value (step ours (f .part .bridge) (f .tx) (f .rx) e) f) (stopAt f)
+
 -- one record
 module _ (b : Bridge) (tx rx : List ℕ) (kind value : ℕ) (cells : List ℕ) (at : ℕ) (r : Record) (k : r ≡ recordOf kind value) where
   pub to-stop : (p : Part) (c : List ℕ) → r ≡ Bad → p ≡ partOf b (at + 11) false → c ≡ sets cells at (bytesOf badRecord)
@@ -78,7 +82,7 @@ module _ (b : Bridge) (tx rx : List ℕ) (kind value : ℕ) (cells : List ℕ) (
   unfolding oneOf judged
   to-stop p c h e f =
       ap₂ (λ (x : Part) (y : List ℕ). end x tx rx y) e f
-      ∙ ap (λ (x : Record). judged x (λ (v : Event). lineAt kind value (step ours b tx rx v) (from b tx rx cells at)) (stopAt (from b tx rx cells at))) (sym h ∙ k)
+      ∙ ap (oneBy (from b tx rx cells at) kind value) (sym h ∙ k)
 
   pub to-one : (e : Event) (a : Answer) (t s : List ℕ) (n : ℕ) (line : Line) (c : List ℕ) (x : ℕ) (p : Part) → r ≡ Good e → out a t s ≡ step ours b tx rx e
       → n ≡ noteNumber (a .note) → line ≡ lineOf kind value n (a .sdo) (a .sout) → c ≡ sets cells at (bytesOf line)
@@ -89,13 +93,10 @@ module _ (b : Bridge) (tx rx : List ℕ) (kind value : ℕ) (cells : List ℕ) (
       ap₂ (λ (x : Part) (y : List ℕ). end x t s y) (q ∙ ap (λ (y : ℕ). partOf (a .state) y true) z) f
       ∙ ap (λ (x : Line). end (partOf (a .state) (at + x .length) true) t s (sets cells at (bytesOf x))) j
       ∙ ap (λ (x : Out). lineAt kind value x (from b tx rx cells at)) u
-      ∙ ap (λ (x : Record). judged x (λ (v : Event). lineAt kind value (step ours b tx rx v) (from b tx rx cells at)) (stopAt (from b tx rx cells at))) (sym h ∙ k)
+      ∙ ap (oneBy (from b tx rx cells at) kind value) (sym h ∙ k)
 
 -- a record, and the rest played after it
 module _ (b : Bridge) (tx rx : List ℕ) (kind value : ℕ) (rest cells : List ℕ) (at : ℕ) where
-  abbrev oneBy : Record → End
-  oneBy r = judged r (λ (e : Event). lineAt kind value (step ours b tx rx e) (from b tx rx cells at)) (stopAt (from b tx rx cells at))
-
   abbrev playedBy : Record → Played
   playedBy r =
       judged r (λ (e : Event). after (bytesOf (lineFor kind value (step ours b tx rx e .answer)))
@@ -106,7 +107,7 @@ module _ (b : Bridge) (tx rx : List ℕ) (kind value : ℕ) (rest cells : List �
       (shownAt (played ours (o .part .bridge) (o .tx) (o .rx) rest) (o .out) (o .part .length) ≡ shownAt (playedBy r) cells at)
       × (o .part .length ≤ at + 17)
 
-  goes : (r : Record) (o : End) → o ≡ oneBy r → o .part .on ≡ true → Goes r o
+  goes : (r : Record) (o : End) → o ≡ oneBy (from b tx rx cells at) kind value r → o .part .on ≡ true → Goes r o
   unfolding judged
   goes (Good e) o q h =
       let a = step ours b tx rx e .answer in
@@ -117,7 +118,7 @@ module _ (b : Bridge) (tx rx : List ℕ) (kind value : ℕ) (rest cells : List �
       (ap (λ (n : ℕ). shownAt p (sets cells at (bytesOf line)) (at + n)) (sym (s .0)) ∙ shown-after (bytesOf line) p cells at, omega (arith, s .1))
   goes Bad o q h = absurd (true≢false (sym h ∙ ap (λ (x : End). x .part .on) q))
 
-  stops : (r : Record) (o : End) → o ≡ oneBy r → o .part .on ≡ false → o ≡ shownAt (playedBy r) cells at
+  stops : (r : Record) (o : End) → o ≡ oneBy (from b tx rx cells at) kind value r → o .part .on ≡ false → o ≡ shownAt (playedBy r) cells at
   unfolding judged
   stops (Good e) o q h = absurd (true≢false (sym (ap (λ (x : End). x .part .on) q) ∙ h))
   stops Bad o q h = q
