@@ -1,6 +1,5 @@
 -- One record of a script, its line put at a place of the output: what the inner functions do. Assumes nothing.
 use mathlib.Core.Bool.{Bool, true, false}
-use mathlib.Core.List.{List}
 use Prim.Native.Nat.{ℕ, _+_}
 use lib.Seq.{sets}
 use Rattle.command.specs.Layouts.{Layout}
