@@ -15,9 +15,8 @@ import tempfile
 
 TESTS = pathlib.Path(__file__).resolve().parent
 sys.path.insert(0, str(TESTS / "model"))
-from pair import built_model, difference  # noqa: E402
+from pair import EVENTS, SEEDS, built_model, difference  # noqa: E402
 
-SEEDS, EVENTS = 35, 60_000
 REACHABLE = [0, *range(3, 16)]  # notes 1 and 2 need wrong stores or a broken record: crates/refusals
 
 

@@ -1,12 +1,14 @@
 """A copy of one crate among links to the others, in which a question can be put to the toolchain and nothing of the repository changes."""
 import contextlib
 import pathlib
+import re
 import shutil
 import subprocess
 import sys
 import tempfile
 
 ROOT = pathlib.Path(__file__).resolve().parent.parent
+UNFIT = re.compile(r"can be named from here|is not in scope|unknown name|expects? \d+ arguments?|expected type `tie\.Need")
 
 
 @contextlib.contextmanager
@@ -28,6 +30,20 @@ def checked(place, crate):
     """Status and words of `rt dev`."""
     ran = subprocess.run(["rt", "dev", crate], cwd=place, capture_output=True, text=True)
     return ran.returncode, ran.stdout + ran.stderr
+
+
+def judged(status, said, crate):
+    """What the toolchain's words about a changed crate come to, and the functions that failed.
+
+    `taken`: nothing is wrong; `refused`: the code is good Rattle, its proof files still fit it, and a fact of some function fails; `unfit`: a proof file
+    no longer fits, which says nothing about what the code does; `no program`: it does not compile.
+    """
+    if status == 0:
+        return "taken", []
+    if UNFIT.search(said):
+        return "unfit", []
+    failed = re.findall(rf"^fn ({crate}::\S+): (?:not proved|no proof)", said, re.M)
+    return ("refused" if failed else "no program"), failed
 
 
 def known(tool, crate):

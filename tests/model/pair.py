@@ -3,10 +3,15 @@ import os
 import pathlib
 import shutil
 import subprocess
+import sys
 
 MODEL = pathlib.Path(__file__).resolve().parent
 ROOT = MODEL.parents[1]
 MOST_OUTPUT = 1 << 20  # bytes that `rt try` lets a program print
+HEAD = b"CWB\x00\x01"
+POWER_UP = b"\x00\x00\x01"
+RECORD = len(POWER_UP)  # bytes of an event
+SEEDS, EVENTS = 35, 60_000  # the gate's random scripts (make_scripts.py): seeds 1 to SEEDS, of EVENTS events each
 
 
 def built_model(work):
@@ -14,6 +19,12 @@ def built_model(work):
     subprocess.check_call(["gcc", "-std=c11", "-O2", "-o", model, MODEL / "bridge_model.c"])
     os.environ["BRIDGE_MODEL"] = str(model)  # for make_scripts.py
     return model
+
+
+def joined(texts):
+    """The texts (tools/script.py) as one script, each from a power-up."""
+    turned = [subprocess.check_output([sys.executable, ROOT / "tools/script.py", text]) for text in sorted(texts)]
+    return HEAD + b"".join(POWER_UP + script[len(HEAD):] for script in turned)
 
 
 def difference(place, model, script):
