@@ -36,12 +36,14 @@ CALLS = [
     (BENCH, ["link"], b"", 0, UP, ""),
     (BENCH, ["script"], b"", 0, UP, ""),
     (BENCH, [], b"\xef\xbb\xbfpower good\r\n", 0, UP, ""),
-    (BENCH, [], b"# nothing but a comment\n", 0, b"", ""),
-    (BENCH, [], HEAD, 0, b"", ""),
+    (BENCH, [], b"# nothing but a comment\n", 0, b"", "^standard input: no events$"),
+    (BENCH, [], HEAD, 0, b"", "^standard input: no events$"),
+    (BENCH, [], b"power good\rtick 1\r", 0, UP + b"3 0001 0 FFFF 1\n", ""),
+    (BENCH, ["--", "-x.txt"], b"", 0, UP, ""),
     (BENCH, [], b"", 1, b"bad script\n", "^standard input: it is empty"),
     (BENCH, [], b"CW", 1, b"", "^standard input:1: expected an event .* found `CW`$"),
     (BENCH, [], b"CWB\x00", 1, b"bad script\n", "^standard input: the head is cut: 4 of 5 bytes$"),
-    (BENCH, [], b"CWB\x00\x02", 1, b"bad script\n", "^standard input: version 2, expected 1$"),
+    (BENCH, [], b"CWB\x00\x02", 1, b"bad script\n", r"^standard input: behind the mark CWB stands 00 02, expected version 1 \(00 01\)$"),
     (BENCH, [], b"\x7fELF\x00", 1, b"bad script\n", "begins with 7F 45 4C, a script with 43 57 42"),
     (BENCH, [], HEAD + b"\x00\x00\x01\x09\x00\x00\x03\x00\x01", 1, UP + b"bad record\n", r"record 2 \(byte 8\): kind 9 is no event"),
     (BENCH, [], HEAD + b"\x00\x00\x01\x03\x00", 1, UP + b"bad record\n", r"record 2 \(byte 8\) is cut: 2 of 3 bytes"),
@@ -50,11 +52,13 @@ CALLS = [
     (BENCH, [], b"power good\nword 20\n", 1, b"", "^standard input:2: expected four hex digits, found `20`$"),
     (BENCH, [], b"power good\n\xe2\x80\x8btick 1\n", 1, b"", r"^standard input:2: expected an event .* found `\\u200btick`$"),
     (BENCH, [], "power good\n".encode("utf-16"), 1, b"", "UTF-16: save it as UTF-8"),
+    (BENCH, [], "power good\n".encode("utf-16-le"), 1, b"", "UTF-16: save it as UTF-8"),
+    (BENCH, [], b"power good\ntick\x00 1\n", 1, b"", "^standard input:2: expected a text, found a byte 0$"),
     (BENCH, ["bad.txt"], b"", 1, b"", "^bad.txt:3: expected"),
     (BENCH, ["none.txt"], b"", 1, b"", "^none.txt: No such file or directory$"),
     (BENCH, ["folder"], b"", 1, b"", "^folder: Is a directory$"),
     (BENCH, ["--help"], b"", 0, None, ""),
-    (BENCH, ["--hlep"], b"", 2, b"", "no option --hlep; see tools/bench --help"),
+    (BENCH, ["--hlep"], b"", 2, b"", "no option --hlep .*; see tools/bench --help"),
     (BENCH, [LIGHT, LIGHT], b"", 2, b"", "one FILE, not 2; see tools/bench --help"),
     (SCRIPT, ["script"], b"", 1, b"", "not a text"),
     (SCRIPT, ["none.txt"], b"", 1, b"", "^none.txt: No such file or directory$"),
@@ -63,9 +67,10 @@ CALLS = [
     (STATUS, ["0400"], b"", 0, b"STATUS 0400 (NORMAL, no flag, nothing to fetch)\n  All is well.\n", ""),
     (STATUS, ["ffff"], b"", 0, None, ""),
     (STATUS, ["4401", "0010", "0000", "0000"], b"", 0, None, ""),
-    (STATUS, [], b"", 2, b"", "one to four words, not 0; see tools/status --help"),
+    (STATUS, [], b"", 2, b"", "one to four words and their CRC, not 0; see tools/status --help"),
     (STATUS, ["440"], b"", 2, b"", "expected four hex digits, found `440`"),
 ]
+INIT = 0x0010  # which OTP is never without
 FRAMES = (STATUS, TOP / "docs/CREW.md")  # name frames with their CRC words
 
 
@@ -74,6 +79,7 @@ def prepared(work):
     (work / "text-without-ending").write_bytes(b"power good\n")
     (work / "script").write_bytes(HEAD + b"\x00\x00\x01")
     (work / "bad.txt").write_bytes(b"power good\n\nhello\n")
+    (work / "-x.txt").write_bytes(b"power good\n")
     (work / "folder").mkdir()
     (work / "link").symlink_to(work / "text-without-ending")
     (work / "bench").symlink_to(BENCH)
@@ -85,8 +91,8 @@ def prepared(work):
     os.environ["BENCH_BIN"] = str(programs)
 
 
-def called(tool, arguments, given, work, out=subprocess.PIPE):
-    return subprocess.run([tool, *arguments], input=given, stdout=out, stderr=subprocess.PIPE, cwd=work)
+def called(tool, arguments, given, work, out=subprocess.PIPE, **environment):
+    return subprocess.run([tool, *arguments], input=given, stdout=out, stderr=subprocess.PIPE, cwd=work, env={**os.environ, **environment})
 
 
 def otherwise(done, status, stdout, stderr):
@@ -106,7 +112,7 @@ def statuses():
     """Every flag of every word has its meaning, and every frame that is named its right CRC word."""
     for place, (name, bits) in enumerate(explain.BITS.items()):
         for bit, flag in bits.items():
-            words = ["0000"] * place + ["%04X" % (1 << bit)]
+            words = ["0000"] * place + ["%04X" % (1 << bit | (INIT if flag == "OTP" else 0))]
             told = subprocess.check_output([STATUS, *words]).decode()
             if flag != "ERR" and not re.search(rf"^  {flag}: ", told, re.M):
                 yield "status: %s of %s is not told" % (flag, name)
@@ -124,11 +130,17 @@ def wrong(work):
             yield "%s %s: %s" % (tool.name, " ".join(map(str, arguments)) or repr(given[:20]), what)
     for what in otherwise(called(work / "bench", [LIGHT], b"", work), 0, LINES, ""):
         yield "through a symbolic link: " + what
-    with open("/dev/full", "wb") as full:
-        done = called(BENCH, [LIGHT], b"", work, full)
-    done.stdout = b""
-    for what in otherwise(done, 1, b"", "cannot be written: No space left"):
-        yield "full disk: " + what
+    for tool, arguments in ((BENCH, [LIGHT]), (BENCH, ["--help"]), (SCRIPT, [LIGHT]), (STATUS, ["0400"])):
+        with open("/dev/full", "wb") as full:
+            done = called(tool, arguments, b"", work, full)
+        done.stdout = b""
+        for what in otherwise(done, 1, b"", "cannot be written: No space left"):
+            yield "full disk, %s: %s" % (tool.name, what)
+    (work / "programs/damaged").mkdir()
+    (work / "programs/damaged/bench").write_bytes(b"no program")
+    (work / "programs/damaged/bench").chmod(0o755)
+    for what in otherwise(called(BENCH, [LIGHT], b"", work, BENCH_BIN=str(work / "programs/damaged")), 1, b"", "cannot be started: .*; build it again"):
+        yield "damaged program: " + what
     words = b"".join(out.read_bytes() for out in sorted((TOP / "examples/explained").glob("*.out"))) + b"bad record\n"
     given = (TOP / "crates/states/stdin").read_bytes()
     for what in otherwise(called(BENCH, ["--explain"], given, work), 1, words, "kind 9 is no event"):
@@ -136,7 +148,7 @@ def wrong(work):
     if (work / "given").read_bytes() != given:
         yield "--explain: the program was given another script"
     os.environ["BENCH_BIN"] = str(work / "folder")
-    for what in otherwise(called(BENCH, [LIGHT], b"", work), 1, b"", "bench is not built: run `rt check bench`"):
+    for what in otherwise(called(BENCH, [LIGHT], b"", work), 1, b"", "bench is not built: run `tools/build`"):
         yield "not built: " + what
 
 
@@ -148,7 +160,7 @@ def main():
     if bad:
         print(*bad, sep="\n")
         sys.exit("tools: %d not as they should be" % len(bad))
-    print("tools: %d calls as they should be" % (len(CALLS) + 4))
+    print("tools: %d calls as they should be" % (len(CALLS) + 8))
 
 
 if __name__ == "__main__":

@@ -12,6 +12,10 @@ import pathlib
 import re
 import sys
 
+sys.dont_write_bytecode = True
+sys.path.insert(0, str(pathlib.Path(__file__).resolve().parent))
+from ends import ended  # noqa: E402
+
 TABLE = pathlib.Path(__file__).resolve().parent.parent / "crates/refusals/stdin"
 POWER, WORD, RELEASE, TICK, CLOCK = range(5)
 FILLER = 0xFFFF
@@ -20,6 +24,8 @@ COMMANDS = {2: "FWD_WR_CRC", 3: "FWD_WR", 4: "FWD_WR_END_CRC", 5: "FWD_WR_END", 
             9: "DATA_RD", 10: "REG_WR_CRC", 11: "REG_WR", 12: "REG_RD_CRC", 13: "REG_RD", 14: "SOFTRESET_CRC"}
 REGISTERS = ("DEVID", "SPICTRL", "CCSICTRL", "TXFFLVL", "RXFFLVL", "DEVCTRL", "DIAGMASK", "STATUS", "IFST", "TXFFST", "RXFFST")
 READ_ONLY = ("DEVID", "IFST", "TXFFST", "RXFFST")
+HELD = {"SPICTRL": "spictrl", "CCSICTRL": "ccsictrl", "TXFFLVL": "txfflvl", "RXFFLVL": "rxfflvl", "DIAGMASK": "diagmask"}  # by their columns
+FULL = {"TXFFST": (0x1FF, "TX"), "RXFFST": (0xFF, "RX")}  # a count that can also mean one more
 BITS = {
     "STATUS": {14: "CCSI", 12: "TXFF", 11: "RXFF", 9: "SRST", 8: "SPI", 7: "REG_WRITE", 6: "SPI_CRC", 3: "OTP", 1: "POR", 0: "ERR"},
     "IFST": {9: "SPI_CS", 4: "QUEUE_OVF", 3: "CHECK_BIT", 1: "line CRC", 0: "SIN"},
@@ -27,6 +33,7 @@ BITS = {
     "RXFFST": {15: "RXFFOVF", 14: "RXFFUVF"},
 }
 MODES = ("NORMAL", "INIT", "FAILSAFE")
+READY = ("words ready in RX", "nothing ready in RX")  # by DRDY
 STATES = {0: "NORMAL", 1: "INIT", 3: "FAILSAFE"}  # as bits 5..4 of STATUS say it
 FLAGS = {"otp": "OTP", "por": "POR", "srst": "SRST", "reg_write": "REG_WRITE", "spi_crc": "SPI_CRC", "spi_cs": "SPI_CS", "queue_ovf": "QUEUE_OVF",
          "check_bit": "CHECK_BIT", "line_crc": "line CRC", "sin": "SIN", "txffovf": "TXFFOVF", "txffuvf": "TXFFUVF", "rxffovf": "RXFFOVF",
@@ -45,10 +52,13 @@ NOTES = {
     10: "CCSICTRL is not written: the line is busy",
     11: "no soft reset: the bridge is still sending",
     12: "chip select released before the CRC word",
-    13: "TX ran dry: one END ends this command",
+    13: "TX ran dry: the command is cut short, one END ends it",
     14: "RX is full: the word read back is dropped",
     15: "RX is empty: this FFFF is no word of the line",
 }
+
+
+CUT = "cut"  # beside the columns: the command under way met note 13
 
 
 class NotTold(Exception):
@@ -115,11 +125,11 @@ def value_of(name, value):
     said = [flag for bit, flag in BITS.get(name, {}).items() if value >> bit & 1]
     if name == "STATUS":
         said = [STATES.get(value >> 4 & 3, "state 2")] + (said or ["no flag"])
-        said.append("nothing to fetch" if value >> 10 & 1 else "words ready in RX")
-    if name == "TXFFST":
-        said.append(many(value & 0x1FF, "word") + " in TX")
-    if name == "RXFFST":
-        said.append(many(value & 0xFF, "word") + " in RX")
+        said.append(READY[value >> 10 & 1])
+    if name in FULL:
+        most, store = FULL[name]
+        count = value & most
+        said.append("%s in %s" % ("%d or %d words" % (most, most + 1) if count == most else many(count, "word"), store))
     return "%s %04X%s" % (name, value, " (%s)" % ", ".join(said) if said else "")
 
 
@@ -130,6 +140,17 @@ def opened(event, before, after):
         yield "frame opened: " + command(event.value, after)
 
 
+def written(first, count, note, after):
+    """What these registers are after a write, as the state holds them. STATUS and DEVCTRL act, and hold nothing of it."""
+    for name in REGISTERS[first : first + count]:
+        if name in READ_ONLY:
+            yield "%s cannot be written" % name
+        elif name in HELD and not (name == "CCSICTRL" and note == 10):
+            yield "%s is %04X" % (name, after[HELD[name]])
+        elif name not in HELD:
+            yield "%s written" % name
+
+
 def data(event, before, after):
     """A data word of the open frame."""
     number = "word %d of %d" % (before["phase.got"] + 1, data_words(before))
@@ -137,23 +158,24 @@ def data(event, before, after):
         stored = event.note not in (5, 8)
         yield number + (" stored, %s in TX" % many(after["tx.count"], "word") if stored and event.note != 9 else "")
         return
-    name = REGISTERS[before["open.address"] + before["phase.got"]]
+    address = before["open.address"] + before["phase.got"]
     if before["open.crc"]:
-        yield "%s, for %s, kept until the CRC word" % (number, name)
-    elif name in READ_ONLY:
-        yield "%s, for %s, which cannot be written" % (number, name)
-    elif event.note != 10:
-        yield "%s: %04X written to %s" % (number, event.value, name)
+        yield "%s, for %s, kept until the CRC word" % (number, REGISTERS[address])
+    else:
+        yield ": ".join([number, *written(address, 1, event.note, after)])
 
 
 def closed(event, before, after):
     """The CRC word."""
+    if event.note == 6 and before["phase.mine"]:
+        yield "%s taken back" % many(before["phase.mine"], "word")
     if event.note not in (6, 7):
         yield "CRC word, right"
         if is_in(before, "open", "register_write") and before["open.crc"]:
-            yield registers(before["open.address"], before["open.count"]) + " written"
+            yield from written(before["open.address"], before["open.count"], event.note, after)
         if is_in(before, "open", "soft_reset") and not event.note:
-            yield "soft reset: TX, queue and RX emptied"
+            yield "soft reset: TX, queue and RX emptied%s" % ("" if is_in(before, "reader.ear", "quiet") else ", the command coming back dropped")
+            yield from lost(before)
     if is_in(after, "phase", "no_frame"):
         yield "no answer, the frame is over"
 
@@ -189,15 +211,31 @@ def released(event, before, after):
         yield "chip select released, the next word may open a frame"
     elif before["phase.mine"]:
         yield "%s taken back" % many(before["phase.mine"], "word")
+    elif before["phase.released"] and before["phase.got"] == data_words(before):
+        yield "the forward was queued with all its words, and stands"
 
 
 # ---- the line ----
 
 def why_waiting(state):
-    if not is_in(state, "mode", "normal"):
-        return "state " + MODES[state["mode"]]
-    up = [FLAGS[flag] for flag in ("por", *BLOCKING) if state[flag]]
-    return " and ".join(up) + " up"
+    reasons = [] if is_in(state, "mode", "normal") else ["state " + MODES[state["mode"]]]
+    return " and ".join(reasons + [FLAGS[flag] + " up" for flag in ("por", *BLOCKING) if state[flag]])
+
+
+def under_way(state):
+    """The place whose command is being sent, or None."""
+    place = "place%d." % state["begun"]
+    return place if state["begun"] and not state[place + "sent"] else None
+
+
+def over(state):
+    """What the last 1 of an END ends."""
+    place = under_way(state)
+    if place is None:
+        return "the END that was owed is sent"
+    if state[CUT]:
+        return "the command is over, cut short: the boards have not got all of it"
+    return "the command is sent" if state[place + "words"] else "its ENDs are sent"
 
 
 def sent(event, before, after):
@@ -214,7 +252,7 @@ def sent(event, before, after):
     elif is_in(after, "sender.piece", "end_piece"):
         yield "SOUT: END, bit %d of %d" % (gone, END_BITS)
         if gone == END_BITS:
-            yield many(after["sender.ends"], "END") + " to go" if after["sender.ends"] else "all of it is sent"
+            yield many(after["sender.ends"], "END") + " to go" if after["sender.ends"] else over(before)
     elif after["used"] > after["begun"]:
         yield "SOUT: idle, %s to send and none may start: %s" % (many(after["used"] - after["begun"], "command"), why_waiting(before))
     else:
@@ -224,7 +262,7 @@ def sent(event, before, after):
 def read(event, before, after):
     """What the reader found in a tick."""
     if is_in(before, "reader.ear", "quiet") and not is_in(after, "reader.ear", "quiet"):
-        yield "SIN: a command begins" + ("" if after["reader.belongs"] else ", which belongs to none that was sent")
+        yield "SIN: a command begins" + ("" if after["reader.belongs"] else ", which belongs to no place of the queue")
     elif is_in(before, "reader.ear", "group") and is_in(after, "reader.ear", "group") and after["reader.bits"] == 0 < before["reader.bits"]:
         more = after["rx.count"] > before["rx.count"]
         yield "SIN: word %04X read%s" % (before["reader.value"], ", stored, %s in RX" % many(after["rx.count"], "word") if more else "")
@@ -251,6 +289,7 @@ def flags_up(state):
 
 def powered(event, before, after):
     yield "power-up, %s OTP: state %s, %s up" % ("good" if event.value else "bad", MODES[after["mode"]], flags_up(after))
+    yield from lost(before)
 
 
 # ---- what any event can do ----
@@ -259,13 +298,27 @@ def is_owing(state):
     return is_in(state, "sender.piece", "pause") and state["sender.ends"] > 0
 
 
+def lost(state):
+    """What goes with TX and the queue of this state."""
+    unsent = state["used"] - state["begun"] + (under_way(state) is not None)
+    if unsent:
+        yield "%s not sent, lost" % many(unsent, "command")
+    if state["used"] > unsent:
+        yield "%s sent and not yet read back, its place freed" % many(state["used"] - unsent, "command")
+
+
+def is_clear(event, before, after):
+    """A transmit clear: an END is owed, or is owed still and the queue was emptied."""
+    return event.kind in (WORD, RELEASE) and is_owing(after) and (not is_owing(before) or after["used"] < before["used"])
+
+
 def beside(event, before, after):
     """What is said of every event but a power-up, behind its own words."""
     if after["used"] > before["used"]:
         yield "queued, %d of %d places in use" % (after["used"], PLACES)
-    if is_owing(after) and not is_owing(before):
-        lost = before["used"]
-        yield "transmit clear: TX emptied, %s out of the queue, one END owed" % (many(lost, "place") if lost else "none")
+    if is_clear(event, before, after):
+        yield "transmit clear: TX and queue emptied%s, one END owed" % (", the command under way cut" if under_way(before) else "")
+        yield from lost(before)
     if after["rx.count"] == 0 < before["rx.count"] and not is_in(before, "phase", "answering"):
         yield "RX emptied"
     for column, flag in FLAGS.items():
@@ -275,7 +328,7 @@ def beside(event, before, after):
     if down:
         yield "down: " + ", ".join(down)
     if after["drdy"] != before["drdy"]:
-        yield "DRDY %d: %s" % (after["drdy"], "nothing to fetch" if after["drdy"] else "words ready in RX")
+        yield "DRDY %d: %s" % (after["drdy"], READY[after["drdy"]])
     if after["mode"] != before["mode"]:
         yield "state " + MODES[after["mode"]]
 
@@ -298,7 +351,7 @@ def words(event, before, after):
 
 def told(lines):
     """Each of the bench's lines with its words beside it; a line that is no event stays as it is."""
-    state = dict.fromkeys(COLUMNS, 0)
+    state = {**dict.fromkeys(COLUMNS, 0), CUT: False}
     for number, line in enumerate(lines, 1):
         parts = line.split()
         try:
@@ -307,8 +360,9 @@ def told(lines):
             elif len(parts) < 5:
                 yield line.rstrip("\n")
             else:
-                after = changed(state, parts[5:])
-                yield "%-16s  %s" % (" ".join(parts[:5]), words(Event(parts), state, after))
+                event, after = Event(parts), changed(state, parts[5:])
+                yield "%-16s  %s" % (" ".join(parts[:5]), words(event, state, after))
+                after[CUT] = (event.note == 13 or state[CUT]) and under_way(after) is not None
                 state = after
         except (ValueError, IndexError, KeyError) as error:
             raise NotTold("line %d is not what `states` prints: %s" % (number, line.strip())) from error
@@ -318,11 +372,11 @@ def main():
     if len(sys.argv) != 1:
         sys.exit(__doc__)
     try:
-        for line in told(sys.stdin):
+        for line in told(sys.stdin or []):
             print(line)
     except NotTold as error:
         sys.exit("explain: %s" % error)
 
 
 if __name__ == "__main__":
-    main()
+    ended("tools/explain.py", main)

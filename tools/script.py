@@ -24,8 +24,13 @@ Any other text: `FILE:LINE: expected .., found ..` on standard error, exit statu
 """
 import binascii
 import codecs
+import pathlib
 import re
 import sys
+
+sys.dont_write_bytecode = True
+sys.path.insert(0, str(pathlib.Path(__file__).resolve().parent))
+from ends import ended  # noqa: E402
 
 MARK = b"CWB"
 HEAD = MARK + b"\x00\x01"
@@ -145,7 +150,7 @@ def events(line):
 
 def script(name, text):
     made = [HEAD]
-    for number, line in enumerate(text.split("\n"), 1):
+    for number, line in enumerate(re.split("\r\n|\n|\r", text), 1):
         try:
             made.append(events(line))
         except Refused as refused:
@@ -154,21 +159,31 @@ def script(name, text):
 
 
 def is_wide(data):
-    """Begins with the byte-order mark of UTF-16."""
-    return data[:2] in (codecs.BOM_UTF16_LE, codecs.BOM_UTF16_BE)
+    """UTF-16: by its byte-order mark, or a 0 at every second byte."""
+    return data[:2] in (codecs.BOM_UTF16_LE, codecs.BOM_UTF16_BE) or (len(data) > 3 and (not any(data[1:64:2]) or not any(data[0:64:2])))
+
+
+def is_text(data):
+    """Whether a file that has 0 bytes is a text all the same: up to the first of them it reads as one."""
+    before = data[: data.index(0)]
+    return len(before) > 3 and all(byte in b"\t\r\n" or 32 <= byte < 127 for byte in before)
 
 
 def decoded(name, data):
     """The text of a file. What is not UTF-8 may stand in comments."""
-    if is_wide(data):
-        raise Refused("%s: the text is UTF-16: save it as UTF-8" % name)
     if data.startswith(MARK + b"\x00"):
         raise Refused("%s: a script's bytes (CWB), not a text: the bench program reads it as it is" % name)
+    if is_wide(data):
+        raise Refused("%s: the text is UTF-16: save it as UTF-8" % name)
+    if b"\0" in data:
+        raise Refused("%s:%d: expected a text, found a byte 0" % (name, data[: data.index(0)].count(b"\n") + 1))
     return data.decode("utf-8-sig", errors="replace")
 
 
 def read(name):
     try:
+        if name == "-" and sys.stdin is None:
+            raise Refused("standard input: it is closed")
         if name == "-":
             return sys.stdin.buffer.read()
         with open(name, "rb") as file:
@@ -186,14 +201,10 @@ def main():
         sys.exit(2)
     name = sys.argv[1]
     try:
-        made = script(name, decoded(name, read(name)))
-        sys.stdout.buffer.write(made)
-        sys.stdout.buffer.flush()
+        sys.stdout.buffer.write(script(name, decoded(name, read(name))))
     except Refused as refused:
         sys.exit(str(refused))
-    except OSError as error:
-        sys.exit("%s: the script cannot be written: %s" % (name, error.strerror))
 
 
 if __name__ == "__main__":
-    main()
+    ended("tools/script.py", main)

@@ -1,0 +1,20 @@
+"""How a tool ends: with a sentence, never with a trace of itself."""
+import os
+import sys
+
+
+def ended(tool, main):
+    """Runs a tool's `main`. A reader of the output that has gone, a full disk, a closed output and an interrupt end it in their own way."""
+    if sys.stdout is None:
+        sys.exit("%s: standard output is closed" % tool)
+    try:
+        main()
+        sys.stdout.flush()
+    except BrokenPipeError:
+        os._exit(141)  # as `head` makes any program end
+    except KeyboardInterrupt:
+        os._exit(130)
+    except OSError as error:
+        sys.stderr.write("%s: the output cannot be written: %s\n" % (tool, error.strerror))
+        sys.stderr.flush()
+        os._exit(1)
