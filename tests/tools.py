@@ -64,7 +64,7 @@ CALLS = [
     (SCRIPT, ["none.txt"], b"", 1, b"", "^none.txt: No such file or directory$"),
     (SCRIPT, ["--help"], b"", 0, None, ""),
     (SCRIPT, [], b"", 2, b"", "one FILE, not 0; see tools/script.py --help"),
-    (STATUS, ["0400"], b"", 0, b"STATUS 0400 (NORMAL, no flag, nothing to fetch)\n  All is well.\n", ""),
+    (STATUS, ["0400"], b"", 0, b"STATUS 0400 (NORMAL, no flag, nothing ready in RX)\n  All is well.\n", ""),
     (STATUS, ["ffff"], b"", 0, None, ""),
     (STATUS, ["4401", "0010", "0000", "0000"], b"", 0, None, ""),
     (STATUS, [], b"", 2, b"", "one to four words and their CRC, not 0; see tools/status --help"),
