@@ -4,7 +4,7 @@
 outside.py [--write] [CRATE..]    all of the list, or those of the named crates; --write keeps the verdicts and makes docs/MUTATION.md anew
 
 Each change is made in a copy, compiled without its proof and with the compiler's assumptions checked, and run until something tells it: the
-examples, the guide's texts, the texts of tests/edges and the random scripts of the gate (tests/random_scripts.py), all of them by
+examples, the guide's texts, the texts of tests/edges, the scripts of tests/broken.py and the random scripts of the gate (tests/random_scripts.py), all by
 the bench program against the independent program; then every program of the gate against its stored output. Told: another byte, another exit
 status, or no end. Every crate stands below the bench program but `drain`; a change is run only by programs whose code has its crate.
 Where no run can tell a change, the list says why; exit status 1 where a change is not told and has no reason, or is told and has one.
@@ -26,6 +26,9 @@ from page import OUTSIDE, write_page
 
 sys.path.insert(0, str(HERE.parent / "model"))
 from pair import EVENTS, SEEDS, built_model, joined  # noqa: E402
+
+sys.path.insert(0, str(HERE.parent))
+from broken import SCRIPTS as BROKEN  # noqa: E402
 
 BENCH = "bench"
 LONGEST = 60  # seconds of one run; the longest takes two
@@ -127,6 +130,7 @@ def scripts():
     yield "examples", joined((ROOT / "examples").glob("*.txt"))
     yield "guide", joined((ROOT / "examples/host").glob("*.txt"))
     yield "edges", joined((ROOT / "tests/edges").glob("*.txt"))
+    yield from (("broken scripts", script) for script in BROKEN.values())
     for seed in range(1, SEEDS + 1):
         print(f"\rrandom script {seed} of {SEEDS}", end="", file=sys.stderr, flush=True)
         yield f"random seed {seed}", subprocess.check_output([sys.executable, HERE.parent / "model/make_scripts.py", str(seed), str(EVENTS)])
@@ -145,7 +149,8 @@ def cases(work):
     """All that is run: program, name, arguments, input, expected output. One program's cases stand together."""
     model = built_model(work)
     for name, script in scripts():
-        given, expected = work / f"{name}.cwb", work / f"{name}.out"
+        made = len(list(work.glob("*.cwb")))
+        given, expected = work / f"{made}.cwb", work / f"{made}.out"
         given.write_bytes(script)
         with open(expected, "wb") as out:
             subprocess.run([model, given], stdout=out, check=True)

@@ -22,7 +22,7 @@ Each changes one place of the bridge's code and leaves the rest: another operand
   that goes into it are such, and were refused; the changes of kind `turned`, two operands of an `&` turned round, are there to show it. `unfit`: not
   even the proof's form fits the changed code. `taken`: the prover found nothing wrong.
 - **A run's.** The changed code is compiled without its proof and with the compiler's assumptions checked, and run until something tells it:
-  `told by` the examples, the guide's texts (`examples/host`), the texts of `tests/edges`, a random script of the gate (all of these against the
+  `told by` the examples, the guide's texts (`examples/host`), the texts of `tests/edges`, the broken scripts of `tests/broken.py`, a random script of the gate (all of these against the
   independent program of the same rules), or a program of the gate against its stored output. They are tried in this order, and the first that
   tells the change is named. `not told`: none of them does, and below stands why no run can.
 

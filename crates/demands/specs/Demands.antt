@@ -1,5 +1,6 @@
--- The three demands (01 What is asked), over the real `bridge::step`. Read this file from top to bottom; `proofs/Demands.antt` cites the
--- theorem behind each. docs/DEMANDS.md says the same in plain words. Assumes nothing.
+-- The three demands, over the real `bridge::step`: what was ordered, in the order's words, which stand here in quotes; 01 speaks of them by number
+-- (What the contracts have to say). Read this file from top to bottom; `proofs/Demands.antt` cites the theorem behind each. docs/DEMANDS.md says
+-- the same in plain words. Assumes nothing.
 use mathlib.Core.Path.{_≡_}
 use mathlib.Core.Bool.{Bool, true, false}
 use mathlib.Core.List.{List}
@@ -19,7 +20,7 @@ use Rattle.bridge.proofs.step.Statement.{statement}
 use Rattle.order.specs.Demand.{Faithful}
 use Rattle.order.specs.Premises.{AskedPremises}
 
--- THE CODE. Lent any record, any two stores and any event, the compiled function `bridge::step` returns, and what it returns, with the stores as
+-- THE CODE. Lent any record, any two stores and any event, the function `bridge::step` returns, and what it returns, with the stores as
 -- it leaves them, is `step ours` of what it was lent. It has no `requires`: nothing is asked of the caller. `statement` is this sentence about
 -- the code itself, made by the toolchain of the contract in crates/bridge/src/lib.rt. What follows is about `step ours`, and so about the code.
 abbrev pub TheCode : Type 1 → Type 2

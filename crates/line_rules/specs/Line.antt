@@ -31,7 +31,7 @@ pieceSound EndPiece s busy p =
 abbrev pub lastBegun : Queue → Place
 lastBegun q = placeAt q (q .begun - 1)
 
--- "A command with extra ENDs is sent with the last bit of the last extra END": an idle sender has no place under way
+-- A command with extra ENDs is sent with the last bit of the last of them (docs/DECISIONS.md): an idle sender has no place under way
 abbrev pub senderSound : Sender → Queue → Bool
 senderSound s q = pieceSound (s .piece) s (underWay q) (lastBegun q) && not (idle s && underWay q)
 

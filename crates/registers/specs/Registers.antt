@@ -53,7 +53,7 @@ txLevels = 512
 abbrev pub rxLevels : ℕ
 rxLevels = 256
 
--- Record rule: the registers hold no bit that a write cannot reach, so that "bits that are not writable read 0".
+-- Record rule: the registers hold no bit that a write cannot reach, so that bits that are not writable read 0 (docs/DECISIONS.md).
 abbrev pub regsSound : Regs → Bool
 regsSound r =
     eqb (bitAnd (r .spictrl) (rowOf 1 .writable)) (r .spictrl) && ltb (r .txfflvl) txLevels && ltb (r .rxfflvl) rxLevels

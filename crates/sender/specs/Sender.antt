@@ -86,7 +86,7 @@ placeSent p = record {
   «crc_read» = p .«crc_read»;
 }
 
--- "A command with extra ENDs is sent with the last bit of the last extra END": the sender is idle again, and its place is sent
+-- A command with extra ENDs is sent with the last bit of the last of them (docs/DECISIONS.md): the sender is idle again, and its place is sent
 unfoldable pub finished : Sending → Returned
 finished s =
     pick (idle (s .sender) && underWay (s .queue))

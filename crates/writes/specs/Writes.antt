@@ -22,7 +22,7 @@ use Rattle.writes.specs.declared.Effects.{Effects}
 use Rattle.plan.specs.declared.Plan.{Plan}
 use Rattle.plan.specs.declared.Receive.the-variants.{LeaveRx, EmptyRx}
 
--- "sender or reader is busy": the reader "from its 0 to its END, discarding included"
+-- "sender or reader is busy": the reader from its 0 to its END, discarding included (docs/DECISIONS.md)
 unfoldable pub isQuiet : Ear → Bool
 isQuiet Quiet = true
 isQuiet (Group value bits ones) = false
