@@ -1,7 +1,9 @@
 #!/usr/bin/env python3
 """The bridge's speed beside a plain C program of the same rules that tests the same record rules (plain.c), in one run.
 
-measure.py    needs the proved program (`rt check speed`), gcc, and an x86-64 machine, where both run natively
+measure.py                   needs the proved program (`rt check speed`), gcc, and an x86-64 machine, where both run natively
+measure.py --instructions    counts instructions instead, with valgrind: the same whatever else the machine does; one event's are those of a
+                             second round over its events
 
 Each workload runs in both programs by turns, nine times; the least user time of each counts. Both print how much was done and a sum of all
 answers; they must print the same. Nanoseconds are for one event, or for one tick of a drain.
@@ -9,7 +11,9 @@ answers; they must print the same. Nanoseconds are for one event, or for one tic
 import os
 import pathlib
 import platform
+import re
 import resource
+import shutil
 import subprocess
 import sys
 import tempfile
@@ -75,7 +79,32 @@ def measured(work, plain, name, rounds, mode, records):
     print(f"{name:58} {done:>9} {ours:7.1f} {theirs:7.1f} {ours / theirs:6.2f}", flush=True)
 
 
+def instructions(program, rounds, mode, script):
+    """What valgrind counts of a run, and how much was done."""
+    command = ["valgrind", "--tool=callgrind", "--callgrind-out-file=/dev/null", program, str(rounds), mode]
+    ran = subprocess.run(command, stdin=open(script, "rb"), capture_output=True, check=True, text=True)
+    return int(re.search(r"Collected : (\d+)", ran.stderr)[1]), int(ran.stdout.split()[0])
+
+
+def counted(work, plain, name, rounds, mode, records):
+    """Instructions of one event in either program."""
+    script = work / "script.cwb"
+    script.write_bytes(HEAD + records)
+    each = []
+    for program in (OURS, plain):
+        (once, done), (twice, done_twice) = (instructions(program, many, mode, script) for many in (1, 2))
+        each.append((twice - once) / (done_twice - done))
+    print(f"{name:58} {done_twice - done:>9} {each[0]:7.0f} {each[1]:7.0f} {each[0] / each[1]:6.2f}", flush=True)
+
+
 def main():
+    measure, unit = (counted, "instr") if sys.argv[1:] == ["--instructions"] else (measured, "ns")
+    if len(sys.argv) > 1 and measure is measured:
+        sys.exit(__doc__)
+    if measure is counted and not shutil.which("valgrind"):
+        sys.exit("speed: valgrind is not found")
+    if not OURS.exists():
+        sys.exit("speed: target/bin/speed is not built: run `rt check speed`")
     if platform.machine() != "x86_64":
         sys.exit("speed: both programs are measured natively on x86-64 only")
     with tempfile.TemporaryDirectory() as folder:
@@ -84,7 +113,7 @@ def main():
         subprocess.check_call(["gcc", "-std=c11", "-O2", "-o", plain, HERE / "plain.c"])
         os.environ["BRIDGE_MODEL"] = str(work / "bridge_model")
         subprocess.check_call(["gcc", "-std=c11", "-O2", "-o", os.environ["BRIDGE_MODEL"], HERE.parent / "model/bridge_model.c"])
-        print(f"{'workload':58} {'done':>9} {'ours ns':>7} {'C ns':>7} {'ratio':>6}")
+        print(f"{'workload':58} {'done':>9} {'ours':>7} {'C ' + unit:>7} {'ratio':>6}")
         ticks = FULL + event(TICK, 1) * 9000
         workloads = [
             ("step: random events of all kinds", 100, "step", random_script(work)),
@@ -101,7 +130,7 @@ def main():
             ("step: clock readings, 8 places, 512 words in TX", 100, "step", steady(forwards(8, 64), CLOCK, 7)),
         ]
         for workload in workloads:
-            measured(work, plain, *workload)
+            measure(work, plain, *workload)
 
 
 if __name__ == "__main__":
