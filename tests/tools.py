@@ -65,12 +65,14 @@ CALLS = [
     (SCRIPT, ["--help"], b"", 0, None, ""),
     (SCRIPT, [], b"", 2, b"", "one FILE, not 0; see tools/script.py --help"),
     (STATUS, ["0400"], b"", 0, b"STATUS 0400 (NORMAL, no flag, nothing ready in RX)\n  All is well.\n", ""),
+    (STATUS, ["0400", "D1CB"], b"", 0, b"STATUS 0400 (NORMAL, no flag, nothing ready in RX)\n  All is well.\n", ""),
+    (STATUS, ["0000", "0000", "0000", "0000", "0000"], b"", 1, None, ""),
     (STATUS, ["ffff"], b"", 0, None, ""),
     (STATUS, ["4401", "0010", "0000", "0000"], b"", 0, None, ""),
     (STATUS, [], b"", 2, b"", "one to four words and their CRC, not 0; see tools/status --help"),
     (STATUS, ["440"], b"", 2, b"", "expected four hex digits, found `440`"),
 ]
-INIT = 0x0010  # which OTP is never without
+ERR, INIT = 0x0001, 0x0010  # a flag comes with ERR, OTP with INIT
 FRAMES = (STATUS, TOP / "docs/CREW.md")  # name frames with their CRC words
 
 
@@ -112,7 +114,7 @@ def statuses():
     """Every flag of every word has its meaning, and every frame that is named its right CRC word."""
     for place, (name, bits) in enumerate(explain.BITS.items()):
         for bit, flag in bits.items():
-            words = ["0000"] * place + ["%04X" % (1 << bit | (INIT if flag == "OTP" else 0))]
+            words = ["0000"] * place + ["%04X" % (1 << bit | (ERR if place == 0 else 0) | (INIT if flag == "OTP" else 0))]
             told = subprocess.check_output([STATUS, *words]).decode()
             if flag != "ERR" and not re.search(rf"^  {flag}: ", told, re.M):
                 yield "status: %s of %s is not told" % (flag, name)
@@ -141,7 +143,8 @@ def wrong(work):
     (work / "programs/damaged/bench").chmod(0o755)
     for what in otherwise(called(BENCH, [LIGHT], b"", work, BENCH_BIN=str(work / "programs/damaged")), 1, b"", "cannot be started: .*; build it again"):
         yield "damaged program: " + what
-    words = b"".join(out.read_bytes() for out in sorted((TOP / "examples/explained").glob("*.out"))) + b"bad record\n"
+    states = (TOP / "crates/states/stdout").read_text().splitlines()
+    words = "".join(line + "\n" for line in explain.told(states)).encode()
     given = (TOP / "crates/states/stdin").read_bytes()
     for what in otherwise(called(BENCH, ["--explain"], given, work), 1, words, "kind 9 is no event"):
         yield "--explain: " + what

@@ -73,7 +73,7 @@ def names():
     return columns, {name: int(value) for name, value in numbers.items()}
 
 
-COLUMNS, NUMBER = names()
+COLUMNS, NUMBER = names() if TABLE.exists() else ([], {})
 
 
 def changed(state, parts):
@@ -211,7 +211,7 @@ def released(event, before, after):
         yield "chip select released, the next word may open a frame"
     elif before["phase.mine"]:
         yield "%s taken back" % many(before["phase.mine"], "word")
-    elif before["phase.released"] and before["phase.got"] == data_words(before):
+    elif before["phase.released"] and not before["phase.blocked"] and before["phase.got"] == data_words(before):
         yield "the forward was queued with all its words, and stands"
 
 
@@ -259,13 +259,24 @@ def sent(event, before, after):
         yield "SOUT: idle"
 
 
+def unstored(event, before):
+    """Why a word read back is not stored, where its command asked for that."""
+    places = ["place%d." % i for i in range(1, before["begun"] + 1)]
+    its = next((place for place in places if before[place + "words"] and not before[place + "read"]), None)
+    if not before["reader.belongs"] or its is None or not before[its + "store"] or event.note == 14:
+        return ""
+    up = [FLAGS[flag] for flag in ("rxffovf", "rxffuvf") if before[flag]]
+    return ", not stored: %s" % (" and ".join(up) + " up" if up else "RX was cleared, or a flag of it was up, since the command began")
+
+
 def read(event, before, after):
     """What the reader found in a tick."""
     if is_in(before, "reader.ear", "quiet") and not is_in(after, "reader.ear", "quiet"):
         yield "SIN: a command begins" + ("" if after["reader.belongs"] else ", which belongs to no place of the queue")
     elif is_in(before, "reader.ear", "group") and is_in(after, "reader.ear", "group") and after["reader.bits"] == 0 < before["reader.bits"]:
         more = after["rx.count"] > before["rx.count"]
-        yield "SIN: word %04X read%s" % (before["reader.value"], ", stored, %s in RX" % many(after["rx.count"], "word") if more else "")
+        stored = ", stored, %s in RX" % many(after["rx.count"], "word") if more else unstored(event, before)
+        yield "SIN: word %04X read%s" % (before["reader.value"], stored)
     elif is_in(before, "reader.ear", "group") and is_in(after, "reader.ear", "lost"):
         yield "SIN: wrong check bit, dropped from here to END"
     elif is_in(after, "reader.ear", "quiet") and not is_in(before, "reader.ear", "quiet"):
@@ -289,7 +300,13 @@ def flags_up(state):
 
 def powered(event, before, after):
     yield "power-up, %s OTP: state %s, %s up" % ("good" if event.value else "bad", MODES[after["mode"]], flags_up(after))
+    if under_way(before):
+        yield "the command under way cut"
     yield from lost(before)
+    if before["rx.count"]:
+        yield "%s in RX lost" % many(before["rx.count"], "word")
+    if not is_in(before, "phase", "no_frame"):
+        yield "an open frame dropped"
 
 
 # ---- what any event can do ----
@@ -298,13 +315,13 @@ def is_owing(state):
     return is_in(state, "sender.piece", "pause") and state["sender.ends"] > 0
 
 
-def lost(state):
-    """What goes with TX and the queue of this state."""
+def lost(state, more=0):
+    """What goes with TX and the queue of this state, and so many commands besides."""
     unsent = state["used"] - state["begun"] + (under_way(state) is not None)
-    if unsent:
-        yield "%s not sent, lost" % many(unsent, "command")
+    if unsent + more:
+        yield "%s not sent, lost" % many(unsent + more, "command")
     if state["used"] > unsent:
-        yield "%s sent and not yet read back, its place freed" % many(state["used"] - unsent, "command")
+        yield "%s gone out and not read back, no longer waited for" % many(state["used"] - unsent, "command")
 
 
 def is_clear(event, before, after):
@@ -318,8 +335,9 @@ def beside(event, before, after):
         yield "queued, %d of %d places in use" % (after["used"], PLACES)
     if is_clear(event, before, after):
         yield "transmit clear: TX and queue emptied%s, one END owed" % (", the command under way cut" if under_way(before) else "")
-        yield from lost(before)
-    if after["rx.count"] == 0 < before["rx.count"] and not is_in(before, "phase", "answering"):
+        yield from lost(before, event.note in (8, 9) and not before["phase.released"])
+    reset = is_in(before, "phase", "collecting") and is_in(before, "open", "soft_reset")
+    if after["rx.count"] == 0 < before["rx.count"] and not is_in(before, "phase", "answering") and not reset:
         yield "RX emptied"
     for column, flag in FLAGS.items():
         if after[column] > before[column]:
@@ -351,6 +369,8 @@ def words(event, before, after):
 
 def told(lines):
     """Each of the bench's lines with its words beside it; a line that is no event stays as it is."""
+    if not COLUMNS:
+        raise NotTold("the names of the state's columns are not there: %s" % TABLE)
     state = {**dict.fromkeys(COLUMNS, 0), CUT: False}
     for number, line in enumerate(lines, 1):
         parts = line.split()
