@@ -1,5 +1,5 @@
--- The three demands, over the real `bridge::step`: what was ordered, in the order's words, which stand here in quotes; 01 speaks of them by number
--- (What the contracts have to say). Read this file from top to bottom; `proofs/Demands.antt` cites the theorem behind each. docs/DEMANDS.md says
+-- The three demands, over the real `bridge::step`: what was ordered, in the order's words, which stand here in quotes; 01 names the second and
+-- the third (What the contracts have to say). Read this file from top to bottom; `proofs/Demands.antt` cites the theorem behind each. docs/DEMANDS.md says
 -- the same in plain words. Assumes nothing.
 use mathlib.Core.Path.{_≡_}
 use mathlib.Core.Bool.{Bool, true, false}
