@@ -228,6 +228,18 @@ def under_way(state):
     return place if state["begun"] and not state[place + "sent"] else None
 
 
+def words_out(state):
+    """Whether the command under way has all its words on the line, and only its ENDs are left."""
+    return is_in(state, "sender.piece", "end_piece") and not state[CUT]
+
+
+def cut_off(state):
+    """What becomes of the command under way where the line is cleared."""
+    if not under_way(state):
+        return ""
+    return ", the command under way cut in its ENDs, all its words out" if words_out(state) else ", the command under way cut"
+
+
 def over(state):
     """What the last 1 of an END ends."""
     place = under_way(state)
@@ -263,6 +275,8 @@ def unstored(event, before):
     """Why a word read back is not stored, where its command asked for that."""
     places = ["place%d." % i for i in range(1, before["begun"] + 1)]
     its = next((place for place in places if before[place + "words"] and not before[place + "read"]), None)
+    if before["reader.stored"] and not before["reader.belongs"]:
+        return ", not stored: its place was cleared away"
     if not before["reader.belongs"] or its is None or not before[its + "store"] or event.note == 14:
         return ""
     up = [FLAGS[flag] for flag in ("rxffovf", "rxffuvf") if before[flag]]
@@ -299,14 +313,15 @@ def flags_up(state):
 
 
 def powered(event, before, after):
-    yield "power-up, %s OTP: state %s, %s up" % ("good" if event.value else "bad", MODES[after["mode"]], flags_up(after))
-    if under_way(before):
-        yield "the command under way cut"
+    state = "power-up, %s OTP: state %s, %s up" % ("good" if event.value else "bad", MODES[after["mode"]], flags_up(after))
+    yield state + cut_off(before)
     yield from lost(before)
     if before["rx.count"]:
         yield "%s in RX lost" % many(before["rx.count"], "word")
-    if not is_in(before, "phase", "no_frame"):
+    if is_in(before, "phase", "collecting"):
         yield "an open frame dropped"
+    elif is_in(before, "phase", "answering"):
+        yield "the rest of the answer is dropped"
 
 
 # ---- what any event can do ----
@@ -317,7 +332,7 @@ def is_owing(state):
 
 def lost(state, more=0):
     """What goes with TX and the queue of this state, and so many commands besides."""
-    unsent = state["used"] - state["begun"] + (under_way(state) is not None)
+    unsent = state["used"] - state["begun"] + (under_way(state) is not None and not words_out(state))
     if unsent + more:
         yield "%s not sent, lost" % many(unsent + more, "command")
     if state["used"] > unsent:
@@ -334,7 +349,9 @@ def beside(event, before, after):
     if after["used"] > before["used"]:
         yield "queued, %d of %d places in use" % (after["used"], PLACES)
     if is_clear(event, before, after):
-        yield "transmit clear: TX and queue emptied%s, one END owed" % (", the command under way cut" if under_way(before) else "")
+        yield "transmit clear: TX and queue emptied%s, one END owed" % cut_off(before)
+        if before["reader.belongs"]:
+            yield "what comes back of the command being read is no longer stored or compared"
         yield from lost(before, event.note in (8, 9) and not before["phase.released"])
     reset = is_in(before, "phase", "collecting") and is_in(before, "open", "soft_reset")
     if after["rx.count"] == 0 < before["rx.count"] and not is_in(before, "phase", "answering") and not reset:
