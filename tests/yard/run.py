@@ -127,11 +127,11 @@ class Host:
         self.recover()                                          # start-up
 
     def frame(self, *words, answer=1):
-        """A frame, its answer fetched and checked; the answer's words."""
-        for word in (*words, crc(words)):
-            self.wire.word(word)
-        if self.wire.late:
-            self.wire.word(FILLER)
+        """A frame, its answer fetched and checked; the answer's words. Up to its own CRC word SDO must be FFFF."""
+        for word in (*words, crc(words), *[FILLER] * self.wire.late):
+            if self.wire.word(word) != FILLER:
+                self.wire.release()                             # at once, before a word of this frame can be a command word
+                raise Fault
         *came, check = [self.wire.word(FILLER) for _ in range(answer + 1)]
         self.wire.release()
         must(check == crc(came))
@@ -263,16 +263,21 @@ def seen(wire, call_ups):
     return Seen(len(got), len(call_ups) - len(places), sum(words not in known for words in got), places == sorted(places))
 
 
+def any_words(i, count):
+    """Words of call-up i, spread over all sixteen bits: some would be command words, if one were looked for among them."""
+    return [(i * 0x9E37 + j * 0x61C9 ^ 0x5A5A) & 0xFFFF for j in range(1, count + 1)]
+
+
 def same_size(count, size):
     """Call-ups of `size` words, no two alike. The first word is an FC write (01 The line: the CRC is compared); there are 16 of these."""
     if size == 1:
         return [(0xAA00 | i if i < 16 else 0x1000 | i,) for i in range(count)]
-    return [(0xAA00 | i % 16, *(i << 8 | j for j in range(1, size))) for i in range(count)]
+    return [(0xAA00 | i % 16, *any_words(i, size - 1)) for i in range(count)]
 
 
 def mixed(count):
     """Call-ups of 4, 1, 8, 3 and 32 words by turns, no two alike up to eighty."""
-    return [(0xAA00 | i % 16, *(i << 8 | j for j in range(1, (4, 1, 8, 3, 32)[i % 5]))) for i in range(count)]
+    return [(0xAA00 | i % 16, *any_words(i, (4, 1, 8, 3, 32)[i % 5] - 1)) for i in range(count)]
 
 
 class Experiments:

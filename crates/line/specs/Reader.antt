@@ -46,7 +46,7 @@ inGroup value bits ones b =
 unfoldable pub inLost : ℕ → Heard
 inLost ones = pick (eqb ones endLength) (heard Quiet Over) (heard (Lost ones) Nothing)
 
--- "The reader starts at a 0."
+-- "The reader (SIN) starts at a 0."
 unfoldable pub hear : Ear → Bool → Heard
 hear Quiet b = pick b (heard Quiet Nothing) (heard (Group 0 0 0) Start)
 hear (Group value bits ones) b = inGroup value bits (runOn ones b) b

@@ -113,13 +113,13 @@ abbrev pub unmasked : Flags → Bool
 unmasked f =
     f .otp || f .por || f .srst || f .«reg_write» || f .«spi_cs» || f .«queue_ovf» || f .txffovf || f .txffuvf || f .rxffovf || f .rxffuvf
 
--- the others, each with "its DIAGMASK bit (11 CHECK_BIT, 9 line CRC, 8 SIN, 0 SPI_CRC)"
+-- the others, each with its "DIAGMASK bit (11 CHECK_BIT, 9 line CRC, 8 SIN, 0 SPI_CRC)"
 abbrev pub unhidden : Flags → ℕ → Bool
 unhidden f mask =
     (f .«check_bit» && not (bit 11 mask)) || (f .«line_crc» && not (bit 9 mask)) || (f .sin && not (bit 8 mask))
     || (f .«spi_crc» && not (bit 0 mask))
 
--- "ERR is 1 when any flag is up whose DIAGMASK bit is not set, or in FAILSAFE."
+-- "ERR is 1 when any flag is up whose DIAGMASK bit .. is not set, or in FAILSAFE."
 unfoldable pub err : Control → Bool
 err c = unmasked (c .flags) || unhidden (c .flags) (c .regs .diagmask) || isFailsafe (c .mode)
 

@@ -45,7 +45,7 @@ withRxfflvl r v = record { spictrl = r .spictrl; ccsictrl = r .ccsictrl; txfflvl
 abbrev pub withDiagmask : Regs → ℕ → Regs
 withDiagmask r v = record { spictrl = r .spictrl; ccsictrl = r .ccsictrl; txfflvl = r .txfflvl; rxfflvl = r .rxfflvl; diagmask = v }
 
--- Note 10: "CCSICTRL write while sender or reader is busy: REG_WRITE flag, that register unchanged"
+-- Note 10: "CCSICTRL write while sender or reader is busy": "REG_WRITE flag, that register unchanged"
 unfoldable pub writeCcsictrl : Control → Bool → ℕ → Written
 writeCcsictrl c busy v =
     pick busy (written (withFlags c (raised (c .flags) RegWrite)) Refused) (written (withRegs c (withCcsictrl (c .regs) v)) Nothing)

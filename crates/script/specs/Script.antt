@@ -29,7 +29,7 @@ bitRecord event value = pick (leb value 1) (Good (event (eqb value 1))) Bad
 unfoldable pub releaseRecord : ℕ → Record
 releaseRecord value = pick (eqb value 0) (Good Release) Bad
 
--- by the kind byte: "0 power, 1 word, 2 release, 3 tick, 4 clock"; every other is a wrong record
+-- by the kind byte: "0 power .., 1 word, 2 release .., 3 tick .., 4 clock"; every other is a wrong record
 unfoldable pub recordOf : ℕ → ℕ → Record
 recordOf kind value =
     getD
