@@ -32,11 +32,11 @@ wish st release p = record { store = st; release = release; place = p }
 abbrev pub granted : Store → Deed → Note → Granted
 granted st d n = record { store = st; deed = d; note = n }
 
--- just after the command word
+-- just after the command word, which the CRC begins with (01 Frames, "over command and data words")
 abbrev pub justBegun : ℕ → Bool → Progress
 justBegun sum blocked = record { got = 0; crc = sum; mine = 0; released = false; blocked = blocked }
 
--- "word counted"
+-- "word counted", dropped or not (01 Notes, 5 and 8)
 abbrev pub wordCounted : Progress → Progress
 wordCounted at = record { got = at .got + 1; crc = at .crc; mine = at .mine; released = at .released; blocked = at .blocked }
 

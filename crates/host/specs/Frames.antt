@@ -42,7 +42,7 @@ opened b SoftReset sum = collects b SoftReset sum
 abbrev pub collecting : Command → Progress → Phase
 collecting command at = Collecting command (at .got) (at .crc) (at .mine) (at .released) (at .blocked)
 
--- the CRC with the word in it
+-- the CRC with the word in it: "over command and data words" (01 Frames)
 abbrev pub summed : ℕ → Progress → Progress
 summed sum at = record { got = at .got; crc = sum; mine = at .mine; released = at .released; blocked = at .blocked }
 
@@ -56,7 +56,7 @@ dataWord b (RegisterWrite crc address count) at w =
 dataWord b (RegisterRead crc address count) at w = plain b Idle Done
 dataWord b SoftReset at w = plain b Idle Done
 
--- a data word while one is due, then the CRC word
+-- "Command word, data words, CRC word" (01 Frames): a data word while one is due, then the CRC word
 abbrev pub collected : Layout → Bridge → Command → Progress → ℕ → Plan
 collected l b command at w =
     pick (ltb (at .got) (dataWords command)) (dataWord b command (summed (l .crcStep (at .crc) w) at) w)

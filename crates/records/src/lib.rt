@@ -1,5 +1,5 @@
-// A record as numbers, in the order of the table's columns: made of them, and compared with them. A variant is its number in the order of its
-// type, and a bool is 0 or 1: `is` of `built` tells numbers that are no record's.
+// A record as numbers, in the order of the columns of crates/refusals/stdin: made of them, told as them, and compared with them. `refusals` and
+// `states` use it. A variant is its number in the order of its type, and a bool is 0 or 1: `is` of `built` tells numbers that are no record's.
 use command::Command;
 use line::Ear;
 use line::Piece;

@@ -13,11 +13,12 @@ use Rattle.state.specs.declared.Progress.{Progress}
 use Rattle.state.specs.declared.Reply.{Reply}
 use Rattle.state.specs.declared.Reply.the-variants.{Status, Data, Registers, Check}
 
--- what a forward's command word says
+-- what a forward's command word says (01 Frames, rows 2 to 7)
 abbrev pub fwd : Bool → ℕ → ℕ → Bool → Fwd
 fwd crc words ends reads = record { crc = crc; words = words; ends = ends; reads = reads }
 
--- what an open frame's phase keeps beside its command
+-- what an open frame's phase keeps beside its command: the words that came, the CRC so far, its own words still in TX and unreleased, whether it is
+-- released, and whether it is blocked (01 Notes, 5). ours
 abbrev pub progress : ℕ → ℕ → ℕ → Bool → Bool → Progress
 progress got crc mine released blocked = record { got = got; crc = crc; mine = mine; released = released; blocked = blocked }
 
