@@ -27,14 +27,13 @@ from counting import ROOT, Counting
 from source import functions
 
 sys.path.insert(0, str(ROOT / "tests/model"))
-from pair import built_model  # noqa: E402
+from pair import built_model, joined  # noqa: E402
 
 LINKED = """base crc16 command registers reading writing line state queue deeds next place_rules line_rules frame_rules rules sender reader plan
     forwards writes closing release answers host kept ticks clock events quick bridge drain""".split()
 CRATES = LINKED + ["script", "playing"]
 GROUPS = ("random", "examples", "edges", "refusals", "others")
 PROGRAMS = {"refusals": "refusals", "numbers_main": "others", "crc16_main": "others", "command_main": "others", "speed": "others"}
-HEAD, POWER_UP = b"CWB\x00\x01", bytes((0, 0, 1))
 NEVER = ROOT / "tests/coverage/never.tsv"
 PAGE = ROOT / "docs/COVERAGE.md"
 BRANCH, JOIN, CALL = "branch", "join", "call"
@@ -108,25 +107,14 @@ def random_scripts():
         yield from pool.map(lambda seed: subprocess.check_output([sys.executable, maker, str(seed), str(test.EVENTS)]), range(1, test.SEEDS + 1))
 
 
-def joined_texts(folder):
-    """The texts of a folder as one script, as the gate runs them."""
-    script = HEAD
-    for text in sorted((ROOT / folder).glob("*.txt")):
-        made = subprocess.run([sys.executable, ROOT / "tools/script.py", text], capture_output=True)
-        if made.returncode:
-            raise SystemExit(f"coverage: {made.stderr.decode(errors='replace').strip()}")
-        script += POWER_UP + made.stdout[len(HEAD):]
-    return script
-
-
 def bench_runs():
     """(group, script) of every run of the bench program."""
     told("random scripts")
     yield from (("random", script) for script in random_scripts())
     told("texts")
     yield "examples", (ROOT / "crates/bench/stdin").read_bytes()
-    yield "examples", joined_texts("examples/host")
-    yield "edges", joined_texts("tests/edges")
+    yield "examples", joined((ROOT / "examples/host").glob("*.txt"))
+    yield "edges", joined((ROOT / "tests/edges").glob("*.txt"))
     yield from (("edges", script) for script in gate_test("broken").SCRIPTS.values())
 
 

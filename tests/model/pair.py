@@ -23,8 +23,13 @@ def built_model(work):
 
 def joined(texts):
     """The texts (tools/script.py) as one script, each from a power-up."""
-    turned = [subprocess.check_output([sys.executable, ROOT / "tools/script.py", text]) for text in sorted(texts)]
-    return HEAD + b"".join(POWER_UP + script[len(HEAD):] for script in turned)
+    script = HEAD
+    for text in sorted(texts):
+        made = subprocess.run([sys.executable, ROOT / "tools/script.py", text], capture_output=True)
+        if made.returncode:
+            raise SystemExit(made.stderr.decode(errors="replace").strip())
+        script += POWER_UP + made.stdout[len(HEAD):]
+    return script
 
 
 def difference(place, model, script):
