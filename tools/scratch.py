@@ -33,16 +33,16 @@ def checked(place, crate):
 
 
 def judged(status, said, crate):
-    """What the toolchain's words about a changed crate come to, and the functions that failed.
+    """What the toolchain's words about a changed crate come to, and the functions or theorems that failed.
 
-    `taken`: nothing is wrong; `refused`: the code is good Rattle, its proof files still fit it, and a fact of some function fails; `unfit`: a proof file
-    no longer fits, which says nothing about what the code does; `no program`: it does not compile.
+    `taken`: nothing is wrong; `refused`: the code is good Rattle, its proof files still fit it, and a fact of some function fails, or a theorem; `unfit`: a
+    proof file no longer fits, which says nothing about what the code does; `no program`: it does not compile.
     """
     if status == 0:
         return "taken", []
     if UNFIT.search(said):
         return "unfit", []
-    failed = re.findall(rf"^fn ({crate}::\S+): (?:not proved|no proof)", said, re.M)
+    failed = re.findall(rf"^fn ({crate}::\S+): (?:not proved|no proof)", said, re.M) or re.findall(r"/proofs/\S+: error: `([^`]+)`", said)[:1]
     return ("refused" if failed else "no program"), failed
 
 
