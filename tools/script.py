@@ -15,14 +15,19 @@ Several events a line:
 
     ticks 36            as many ticks with SIN 1, 1 to 65535
     bits 0 1010 1       a tick for each SIN bit; spaces between bits mean nothing
-    frame 2000 AAF0     these host words, then their CRC word (01 Frames)
-    badframe 2000 AAF0  the same, the lowest bit of the CRC word turned
-    crc 2000 AAF0       the CRC word of these words alone, where a frame's words are written one by one
     answer 3            as many host words FFFF, each fetches one answer word; 1 to 65535
 
+A frame (01 Frames), of an order by name with its CRC word, or of bare words:
+
+    frame FWD_WR_CRC AAF0       command word, data words and CRC word of this order
+    frame 2000 AAF0             these host words, then their CRC word: for frames that no order gives
+    badframe FWD_WR_CRC AAF0    as `frame`, the lowest bit of the CRC word turned
+    crc FWD_WR_CRC AAF0         the CRC word alone, where a frame's words are written one by one
+
 Any other text: `FILE:LINE: expected .., found ..` on standard error, exit status 1, nothing written. Status 2: the command line is wrong.
+
+Orders: a name, its fields (decimal, in any order), its data words (four hex digits each):
 """
-import binascii
 import codecs
 import pathlib
 import re
@@ -31,25 +36,13 @@ import sys
 sys.dont_write_bytecode = True
 sys.path.insert(0, str(pathlib.Path(__file__).resolve().parent))
 from ends import ended  # noqa: E402
+from frames import COMMAND, ROWS, closed, hex_words, is_hex, listed, order  # noqa: E402
+from refused import Refused, refuse  # noqa: E402
 
 MARK = b"CWB"
 HEAD = MARK + b"\x00\x01"
 POWER, WORD, RELEASE, TICK, CLOCK = range(5)
 FILLER = 0xFFFF
-START = 0xFFFF
-
-
-class Refused(Exception):
-    """A file or a line that is no text of events: where, what was expected, what was found."""
-
-
-def seen(words):
-    """Words as they can be seen: what is not plain ASCII by its number."""
-    return "`%s`" % " ".join(words).encode("ascii", "backslashreplace").decode() if words else "nothing"
-
-
-def refuse(expected, found):
-    raise Refused("expected %s, found %s" % (expected, seen(found)))
 
 
 def records(kind, values):
@@ -69,17 +62,13 @@ def decimal(arguments, least):
     return int(arguments[0])
 
 
-def hex_words(arguments):
-    if not arguments:
-        refuse("words of four hex digits", arguments)
-    for argument in arguments:
-        if not re.fullmatch("[0-9A-Fa-f]{4}", argument):
-            refuse("four hex digits", [argument])
-    return [int(argument, 16) for argument in arguments]
-
-
-def crc(words):
-    return binascii.crc_hqx(b"".join(word.to_bytes(2, "big") for word in words), START)
+def frame_words(arguments):
+    """A frame's words, its CRC word too: of an order by name, or as they stand in hex."""
+    if arguments and arguments[0] in ROWS:
+        return order(arguments)
+    if not arguments or not is_hex(arguments[0]):
+        refuse("%s, or words of four hex digits" % COMMAND, arguments[:1])
+    return closed(hex_words(arguments))
 
 
 def power(arguments):
@@ -117,17 +106,16 @@ def bits(arguments):
 
 
 def frame(arguments):
-    words = hex_words(arguments)
-    return records(WORD, words + [crc(words)])
+    return records(WORD, frame_words(arguments))
 
 
 def badframe(arguments):
-    words = hex_words(arguments)
-    return records(WORD, words + [crc(words) ^ 1])
+    *words, right = frame_words(arguments)
+    return records(WORD, [*words, right ^ 1])
 
 
 def crc_alone(arguments):
-    return records(WORD, [crc(hex_words(arguments))])
+    return records(WORD, frame_words(arguments)[-1:])
 
 
 def answer(arguments):
@@ -194,7 +182,7 @@ def read(name):
 
 def main():
     if sys.argv[1:] in (["--help"], ["-h"]):
-        print(__doc__.strip())
+        print(__doc__.strip(), "", *("    " + line for line in listed()), sep="\n")
         return
     if len(sys.argv) != 2:
         print("tools/script.py: one FILE, not %d; see tools/script.py --help" % (len(sys.argv) - 1), file=sys.stderr)
