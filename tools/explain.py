@@ -15,13 +15,12 @@ import sys
 sys.dont_write_bytecode = True
 sys.path.insert(0, str(pathlib.Path(__file__).resolve().parent))
 from ends import ended  # noqa: E402
+from frames import NAMES  # noqa: E402
 
 TABLE = pathlib.Path(__file__).resolve().parent.parent / "crates/refusals/stdin"
 POWER, WORD, RELEASE, TICK, CLOCK = range(5)
 FILLER = 0xFFFF
 PLACES, END_BITS, WORD_BITS = 8, 18, 16
-COMMANDS = {2: "FWD_WR_CRC", 3: "FWD_WR", 4: "FWD_WR_END_CRC", 5: "FWD_WR_END", 6: "FWD_RD_END_CRC", 7: "FWD_RD_END", 8: "DATA_RD_CRC",
-            9: "DATA_RD", 10: "REG_WR_CRC", 11: "REG_WR", 12: "REG_RD_CRC", 13: "REG_RD", 14: "SOFTRESET_CRC"}
 REGISTERS = ("DEVID", "SPICTRL", "CCSICTRL", "TXFFLVL", "RXFFLVL", "DEVCTRL", "DIAGMASK", "STATUS", "IFST", "TXFFST", "RXFFST")
 READ_ONLY = ("DEVID", "IFST", "TXFFST", "RXFFST")
 HELD = {"SPICTRL": "spictrl", "CCSICTRL": "ccsictrl", "TXFFLVL": "txfflvl", "RXFFLVL": "rxfflvl", "DIAGMASK": "diagmask"}  # by their columns
@@ -102,7 +101,7 @@ def registers(address, count):
 
 def command(word, state):
     """A command word in words, by the command that the bridge opened."""
-    name, kind = COMMANDS[word >> 12], state["open"]
+    name, kind = NAMES[word >> 12], state["open"]
     if kind == NUMBER["forward"]:
         ends = ", " + many(state["open.ends"], "extra END") if state["open.ends"] else ""
         return "%s of %s%s" % (name, many(state["open.words"], "word"), ends)

@@ -20,8 +20,10 @@ import tempfile
 
 HERE = pathlib.Path(__file__).resolve().parent
 OURS = HERE.parents[1] / "target/bin/speed"
-sys.path.insert(0, str(HERE.parent / "model"))
-from make_scripts import POWER, WORD, RELEASE, TICK, CLOCK, crc16  # noqa: E402
+sys.dont_write_bytecode = True
+sys.path[:0] = [str(HERE.parent / "model"), str(HERE.parents[1] / "tools")]
+import frames  # noqa: E402
+from make_scripts import POWER, WORD, RELEASE, TICK, CLOCK  # noqa: E402
 
 HEAD = b"CWB\x00\x01"
 ROUND = 65535 // 3  # the events that crates/speed takes of a script
@@ -32,16 +34,16 @@ def event(kind, value=0):
     return bytes((kind, value >> 8, value & 255))
 
 
-def frame(words):
-    return b"".join(event(WORD, word) for word in [*words, crc16(words)]) + event(RELEASE)
+def frame(name, words, **fields):
+    return b"".join(event(WORD, word) for word in frames.frame(name, words, **fields)) + event(RELEASE)
 
 
 def forwards(commands, words):
     """So many FWD_WR_CRC of so many words each."""
-    return b"".join(frame([0x2000 | words - 1] + [(1000 * i + 77 * j) & 0xFFFF for j in range(words)]) for i in range(commands))
+    return b"".join(frame("FWD_WR_CRC", [(1000 * i + 77 * j) & 0xFFFF for j in range(words)]) for i in range(commands))
 
 
-CLEAR_POR = frame([0xB007, 0x8000])
+CLEAR_POR = frame("REG_WR", [0x8000], address=7)
 POWER_UP = event(POWER, 1)
 FULL = POWER_UP + CLEAR_POR + forwards(8, 64)  # all eight places and all of TX
 

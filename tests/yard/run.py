@@ -8,7 +8,6 @@ a claim of the guide fails, or where the numbers that it quotes are not those se
 number is held to the guide. Needs gcc; half a minute in all. Not part of the gate.
 """
 import argparse
-import binascii
 import collections
 import ctypes
 import itertools
@@ -21,6 +20,10 @@ import time
 
 HERE = pathlib.Path(__file__).resolve().parent
 GUIDE = HERE.parents[1] / "docs/HOST-GUIDE.md"
+sys.dont_write_bytecode = True
+sys.path.insert(0, str(HERE.parents[1] / "tools"))
+import frames  # noqa: E402
+
 WORD, RELEASE = 1, 2                        # kinds of events, 01 The bench program
 WHOLE, STUCK_AT_0, STUCK_AT_1 = range(3)    # the return wire, as in chain.c
 TO_BRIDGE, TO_HOST = range(2)               # directions of the wire to the host
@@ -41,10 +44,6 @@ class Stopped(Exception):
 def must(holds):
     if not holds:
         raise Fault
-
-
-def crc(words):
-    return binascii.crc_hqx(b"".join(word.to_bytes(2, "big") for word in words), 0xFFFF)
 
 
 def built(folder):
@@ -126,22 +125,25 @@ class Host:
         self.recoveries, self.crew, self.shown, self.unseen = 0, 0, [], []
         self.recover()                                          # start-up
 
-    def frame(self, *words, answer=1):
-        """A frame, its answer fetched and checked; the answer's words. Up to its own CRC word SDO must be FFFF."""
-        for word in (*words, crc(words), *[FILLER] * self.wire.late):
+    def frame(self, name, words=(), answer=1, **fields):
+        """An order's frame, its answer fetched and checked; the answer's words. Up to its own CRC word SDO must be FFFF."""
+        for word in (*frames.frame(name, words, **fields), *[FILLER] * self.wire.late):
             if self.wire.word(word) != FILLER:
                 self.wire.release()                             # at once, before a word of this frame can be a command word
                 raise Fault
         *came, check = [self.wire.word(FILLER) for _ in range(answer + 1)]
         self.wire.release()
-        must(check == crc(came))
+        must(check == frames.crc(came))
         return tuple(came)
 
     def call_up(self, c):
-        return self.frame(0x6000 + len(c) - 1, *c)[0]
+        return self.frame("FWD_RD_END_CRC", c, ends=0)[0]
 
     def fetch(self, c):
-        return self.frame(0x8000 + len(c) - 1, answer=len(c))
+        return self.frame("DATA_RD_CRC", count=len(c), answer=len(c))
+
+    def look(self):
+        return self.frame("REG_RD_CRC", address=7, count=4, answer=4)
 
     def wait(self, ticks):
         """With filler for the watchdog, if that is 98 ms or more."""
@@ -169,7 +171,7 @@ class Host:
             must(s & 0xFBFF == 0)
             self.since[c] = self.wire.now()
         asked = self.wire.now()
-        status, _ifst, _tx, rx = self.frame(0xC307, answer=4)
+        status, _ifst, _tx, rx = self.look()
         must(status & 0xFBFF == 0)
         if not self.waiting and self.turns < 10:
             self.turns = 0
@@ -197,12 +199,12 @@ class Host:
         if self.turns == 10:
             self.crew += 1
         self.wire.release()                                     # 1
-        s, = self.frame(0xA401, 0x6400, 0x0000, 0x01FF, 0x00FF, 0x0004)
+        s, = self.frame("REG_WR_CRC", [0x6400, 0x0000, 0x01FF, 0x00FF, 0x0004], address=1)
         if s & 0x0030 == 0x0010:
             raise Stopped("took OTP for bad")
         must(s & 0x0030 == 0x0030)                              # 2
         self.wait(LONGEST + self.wire.delay)
-        s, = self.frame(0xA601, 0x6400, 0x0000, 0x81FF, 0x80FF, 0x0001, 0x0000, 0x8000)
+        s, = self.frame("REG_WR_CRC", [0x6400, 0x0000, 0x81FF, 0x80FF, 0x0001, 0x0000, 0x8000], address=1)
         must(s == 0x0400)                                       # 3
         for c in self.waiting:                                  # 4
             s = self.call_up(c)
@@ -213,7 +215,7 @@ class Host:
     def by_time(self):
         """Step 5: call-ups taken for shown by time; whether the return wire is whole again."""
         self.wait(self.limit)
-        status, ifst, tx, rx = self.frame(0xC307, answer=4)
+        status, ifst, tx, rx = self.look()
         must(status & 0x13FA == 0 and ifst & 0x0010 == 0 and tx == 0)
         c = self.waiting[0]
         if rx & 0x00FF >= len(c) and self.fetch(c) == c:
