@@ -27,6 +27,12 @@ LINES = (TOP / "examples/expected/first-light.out").read_bytes()
 HEAD = b"CWB\x00\x01"
 UP = b"0 0001 0 FFFF 1\n"
 
+
+def host(words):
+    """The script of these host words."""
+    return HEAD + b"".join(b"\x01" + bytes.fromhex(word) for word in words.split())
+
+
 # tool, arguments, standard input, status, standard output (None: any), a pattern of standard error
 CALLS = [
     (BENCH, [LIGHT], b"", 0, LINES, ""),
@@ -73,8 +79,59 @@ CALLS = [
     (STATUS, [], b"", 2, b"", "one to four words and their CRC, not 0; see tools/status --help"),
     (STATUS, ["440"], b"", 2, b"", "expected four hex digits, found `440`"),
 ]
+# lines of frames, by name and in hex: the script, or a pattern of what is said
+LINES_OF_FRAMES = [
+    (b"frame FWD_WR_CRC AAF0", host("2000 AAF0 AE24"), ""),
+    (b"frame FWD_WR_CRC aaf0  # a comment", host("2000 AAF0 AE24"), ""),
+    (b"badframe FWD_WR_CRC AAF0", host("2000 AAF0 AE25"), ""),
+    (b"crc FWD_WR_CRC AAF0", host("AE24"), ""),
+    (b"frame 2000 AAF0", host("2000 AAF0 AE24"), ""),
+    (b"badframe 2000 AAF0", host("2000 AAF0 AE25"), ""),
+    (b"crc 2000 AAF0", host("AE24"), ""),
+    (b"frame F000", host("F000 0ECE"), ""),
+    (b"frame FWD_WR_END_CRC ends=2 AAF0", host("4041 AAF0 DD6B"), ""),
+    (b"frame FWD_WR_END ends=3", host("5060 7F16"), ""),
+    (b"frame FWD_RD_END ends=1 AAF0", host("7020 AAF0 5DD9"), ""),
+    (b"frame DATA_RD_CRC count=2", host("8001 16B6"), ""),
+    (b"frame REG_WR_CRC address=3 003F 00FF", host("A103 003F 00FF B32E"), ""),
+    (b"frame REG_RD_CRC address=7 count=4", host("C307 2EEF"), ""),
+    (b"frame REG_RD_CRC count=4 address=7", host("C307 2EEF"), ""),
+    (b"frame SOFTRESET_CRC", host("E000 0DBD"), ""),
+    (b"frame", b"", r"^-:1: expected a command \(FWD_WR_CRC, .*, SOFTRESET_CRC\), or words of four hex digits, found nothing$"),
+    (b"frame FWD_WR_CRD AAF0", b"", r"^-:1: expected a command \(.*\), or words of four hex digits, found `FWD_WR_CRD`$"),
+    (b"frame fwd_wr_crc AAF0", b"", "found `fwd_wr_crc`$"),
+    (b"badframe 200 AAF0", b"", "or words of four hex digits, found `200`$"),
+    (b"crc", b"", "or words of four hex digits, found nothing$"),
+    (b"power good\nframe FWD_WR_END_CRC AAF0", b"", "^-:2: expected ends=0 to 127 for FWD_WR_END_CRC, found none$"),
+    (b"frame REG_RD_CRC address=7", b"", "^-:1: expected count=1 to 4 for REG_RD_CRC at address 7, found none$"),
+    (b"frame REG_RD_CRC count=1", b"", "expected address=0 to 10 for REG_RD_CRC, found none$"),
+    (b"frame FWD_WR_END_CRC ends=1 ends=2 AAF0", b"", "expected ends= once, found `ends=1 ends=2`$"),
+    (b"frame FWD_WR_CRC ends=2 AAF0", b"", "expected no field for FWD_WR_CRC, found `ends=2`$"),
+    (b"frame REG_WR_CRC address=7 count=1 8000", b"", "expected no field but address= for REG_WR_CRC, found `count=1`$"),
+    (b"frame FWD_WR_CRC words=1 AAF0", b"", "expected no field for FWD_WR_CRC, found `words=1`$"),
+    (b"frame FWD_WR_END ends=128", b"", "expected ends=0 to 127 for FWD_WR_END, found `ends=128`$"),
+    (b"frame FWD_WR_END ends=-1", b"", "expected ends=0 to 127 for FWD_WR_END, found `ends=-1`$"),
+    (b"frame FWD_WR_END ends=two", b"", "expected ends=0 to 127 for FWD_WR_END, found `ends=two`$"),
+    (b"frame DATA_RD count=0", b"", "expected count=1 to 256 for DATA_RD, found `count=0`$"),
+    (b"frame DATA_RD count=257", b"", "expected count=1 to 256 for DATA_RD, found `count=257`$"),
+    (b"frame REG_WR address=11 0000", b"", "expected address=0 to 10 for REG_WR, found `address=11`$"),
+    (b"frame REG_RD address=7 count=5", b"", "expected count=1 to 4 for REG_RD at address 7, found `count=5`$"),
+    (b"frame REG_WR address=10 0000 0000", b"", "expected 1 word for REG_WR at address 10, found 2$"),
+    (b"frame FWD_WR_CRC" + 513 * b" AAF0", b"", "expected 1 to 512 words for FWD_WR_CRC, found 513$"),
+    (b"frame FWD_WR" + 4097 * b" AAF0", b"", "expected 1 to 4096 words for FWD_WR, found 4097$"),
+    (b"badframe FWD_WR_END ends=0" + 32 * b" AAF0", b"", "expected 0 to 31 words for FWD_WR_END, found 32$"),
+    (b"crc FWD_RD_END ends=0" + 33 * b" AAF0", b"", "expected 1 to 32 words for FWD_RD_END, found 33$"),
+    (b"frame FWD_WR_CRC", b"", "expected 1 to 512 words for FWD_WR_CRC, found none$"),
+    (b"frame SOFTRESET_CRC 0000", b"", "expected no words for SOFTRESET_CRC, found 1$"),
+    (b"frame FWD_WR_CRC AAF", b"", "expected four hex digits, found `AAF`$"),
+    (b"frame FWD_WR_CRC AAF0 0xAA", b"", "expected four hex digits, found `0xAA`$"),
+    (b"frame 2000 AAG0", b"", "expected four hex digits, found `AAG0`$"),
+    (b"frame FWD_WR_END_CRC AAF0 ends=2", b"", "expected fields before the words, found `ends=2`$"),
+]
+CALLS += [(SCRIPT, ["-"], line + b"\n", 1 if said else 0, made, said) for line, made, said in LINES_OF_FRAMES]
 ERR, INIT = 0x0001, 0x0010  # a flag comes with ERR, OTP with INIT
-FRAMES = (STATUS, TOP / "docs/CREW.md")  # name frames with their CRC words
+CREW = TOP / "docs/CREW.md"
+FRAME = re.compile(r"\b[89A-E][0-9A-F]{3}(?: [0-9A-F]{4})+\b")  # with its CRC word, in a page
 
 
 def prepared(work):
@@ -112,18 +169,21 @@ def otherwise(done, status, stdout, stderr):
 
 
 def statuses():
-    """Every flag of every word has its meaning, and every frame that is named its right CRC word."""
+    """Every flag of every word has its meaning; every frame that is told stands in the crew's page, whose frames have their right CRC words."""
+    frames = set(FRAME.findall(STATUS.read_text() + subprocess.check_output([STATUS, "0431"]).decode()))  # 0431: FAILSAFE
     for place, (name, bits) in enumerate(explain.BITS.items()):
         for bit, flag in bits.items():
             words = ["0000"] * place + ["%04X" % (1 << bit | (ERR if place == 0 else 0) | (INIT if flag == "OTP" else 0))]
             told = subprocess.check_output([STATUS, *words]).decode()
+            frames.update(FRAME.findall(told))
             if flag != "ERR" and not re.search(rf"^  {flag}: ", told, re.M):
                 yield "status: %s of %s is not told" % (flag, name)
-    for page in FRAMES:
-        for frame in re.findall(r"\b[89A-E][0-9A-F]{3}(?: [0-9A-F]{4})+\b", page.read_text()):
-            *words, crc = (int(word, 16) for word in frame.split())
-            if crc16(words) != crc:
-                yield "%s: wrong CRC word: %s" % (page.name, frame)
+    known = FRAME.findall(CREW.read_text())
+    yield from ("docs/CREW.md has no frame that status tells: %s" % frame for frame in frames - set(known))
+    for frame in known:
+        *words, crc = (int(word, 16) for word in frame.split())
+        if crc16(words) != crc:
+            yield "docs/CREW.md: wrong CRC word: %s" % frame
 
 
 def wrong(work):
