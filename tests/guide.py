@@ -1,11 +1,11 @@
 #!/usr/bin/env python3
 """Holds docs/HOST-GUIDE.md to its examples (examples/host), and those to both programs.
 
-guide.py    `guide: N frames of the guide stand in its T texts`, or what is wrong and exit status 1
+guide.py    `guide: N frames of the guide stand in its T texts, M orders give theirs`, or what is wrong and exit status 1
 
 Every [name] of the guide is a text and every text is named; every frame with a CRC word in the guide has the right one and stands in a run;
-where the guide's table of commands gives an answer, that run has it; on all texts together the bench program and the independent program
-(model/) print the same.
+where the guide's table of commands gives an answer, that run has it; behind every order in the guide stands its frame (tools/frames.py), with the CRC
+word or without; on all texts together the bench program and the independent program (model/) print the same.
 """
 import pathlib
 import re
@@ -14,14 +14,18 @@ import sys
 import tempfile
 
 TESTS = pathlib.Path(__file__).resolve().parent
-sys.path.insert(0, str(TESTS / "model"))
+ROOT = TESTS.parent
+sys.dont_write_bytecode = True
+sys.path[:0] = [str(TESTS / "model"), str(ROOT / "tools")]
+from frames import ROWS, order  # noqa: E402
 from make_scripts import POWER, WORD, crc16  # noqa: E402
 from pair import built_model, difference  # noqa: E402
+from refused import Refused  # noqa: E402
 
-ROOT = TESTS.parent
 GUIDE = (ROOT / "docs/HOST-GUIDE.md").read_text()
 HEAD = b"CWB\x00\x01"
 HEX = r"(?:[0-9A-F]{4} ?)+"
+ORDER = rf"`((?:{'|'.join(ROWS)})(?: [a-z]+=\d+)*(?: [0-9A-F]{{4}})*)`"
 
 
 def words(text):
@@ -34,6 +38,18 @@ def frames():
         yield words(sent) + words(crc), words(answer)
     for sent in re.findall(rf"`({HEX})` \+ \d", GUIDE):
         yield words(sent), []
+
+
+def wrong_orders():
+    """Orders of the guide that the tools refuse, or that have another frame behind them."""
+    for text, sent, crc in re.findall(rf"{ORDER}(?:[^`]{{0,60}}`({HEX})`(?: \*\*`([0-9A-F]{{4}})`\*\*)?)?", GUIDE):
+        try:
+            made = order(text.split())
+        except Refused as refused:
+            yield f"{text}: {refused}"
+            continue
+        if words(f"{sent} {crc}") not in (made, made[:-1]):
+            yield f"{text}: its frame is {' '.join(f'{word:04X}' for word in made)}, found {sent} {crc}"
 
 
 def scripts():
@@ -56,6 +72,7 @@ def stands(frame, answer, run):
 
 
 def wrong(model, texts):
+    yield from wrong_orders()
     named = set(re.findall(r"\[([a-z][a-z-]+)\]", GUIDE))
     yield from (f"no text: {name}" for name in named - texts.keys())
     yield from (f"not named in the guide: {name}" for name in texts.keys() - named)
@@ -81,7 +98,7 @@ def main():
     if bad:
         print(*bad, sep="\n")
         sys.exit("guide: it does not hold")
-    print(f"guide: {len(list(frames()))} frames of the guide stand in its {len(texts)} texts")
+    print(f"guide: {len(list(frames()))} frames of the guide stand in its {len(texts)} texts, {len(re.findall(ORDER, GUIDE))} orders give theirs")
 
 
 if __name__ == "__main__":
