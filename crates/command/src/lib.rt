@@ -1,4 +1,4 @@
-// The command words of a frame (01 Frames). Only this crate knows their bits.
+// The command words of a frame (01 Frames). Of the bridge only this crate knows their bits; the host's side, `frames`, writes them.
 ghost use mathlib.Core.Path.{_≡_};
 ghost use Rattle.command.specs.Layout.{spans as spansOf, registerWrite, registerRead, decodeOurs};
 

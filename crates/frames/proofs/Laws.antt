@@ -1,0 +1,91 @@
+-- Laws of the rows' limits, as the functions test them. Assumes nothing.
+use mathlib.Core.Path.{_≡_, refl, sym, _∙_, ap}
+use mathlib.Core.Bool.{Bool, true, false, _&&_}
+use Prim.Native.Nat.{ℕ, zero, suc, _+_, _-_, _≤_, _<_}
+use native.Mathlib.Omega.{arith}
+use native.Mathlib.Decide.{decLe}
+use lib.Dec.{leb}
+use lib.ListN.{List·getD-eq-default}
+use borrow.Author.Tests.{lt-ltb, le-ltb, le-leb, lt-leb, eq-eqb, ne-eqb}
+use Rattle.base.specs.Arms.{past}
+use Rattle.base.specs.Pick.{pick, pick-true, pick-false, and-both}
+use Rattle.base.specs.Truth.{and-none}
+use Rattle.frames.specs.Answers.{answerOf, dueOf}
+use Rattle.frames.specs.Orders.{spans, fieldsWithin, headOf, rows, orderOf}
+use Rattle.frames.specs.declared.Due.{Due}
+use Rattle.frames.specs.declared.Due.the-variants.{Nothing}
+use Rattle.frames.specs.declared.Head.{Head}
+use Rattle.frames.specs.declared.Order.{Order}
+use Rattle.frames.specs.declared.Named.{Named}
+use Rattle.frames.specs.declared.Named.the-variants.{Unknown}
+
+-- a joined test fails by its first part
+pub and-first-fails : (a b : Bool) → a ≡ false → (a && b) ≡ false
+and-first-fails a b h = rw h
+
+-- a span of registers, by what is left behind its address
+module _ (address count : ℕ) where
+  pub spans-past : 11 ≤ address → spans address count ≡ false
+  spans-past h =
+      elim (decLe 1 count) [
+        | yes p ↦ and-none (leb 1 count) (leb (address + count) 11) (lt-leb (address + count) 11 (omega arith))
+        | no p ↦ and-first-fails (leb 1 count) (leb (address + count) 11) (lt-leb 1 count (omega arith))
+      ]
+
+  pub spans-none : count < 1 → spans address count ≡ false
+  spans-none h = and-first-fails (leb 1 count) (leb (address + count) 11) (lt-leb 1 count (omega arith))
+
+  pub spans-over : 11 - address < count → spans address count ≡ false
+  spans-over h = and-none (leb 1 count) (leb (address + count) 11) (lt-leb (address + count) 11 (omega arith))
+
+  pub spans-fits : address < 11 → 1 ≤ count → count ≤ 11 - address → spans address count ≡ true
+  spans-fits h k l = and-both (leb 1 count) (leb (address + count) 11) (le-leb 1 count k) (le-leb (address + count) 11 (omega arith))
+
+  pub spans-by : address < 11 → 1 ≤ count → leb count (11 - address) ≡ spans address count
+  spans-by h k =
+      elim (decLe count (11 - address)) [
+        | yes p ↦ le-leb count (11 - address) p ∙ sym (spans-fits h k p)
+        | no p ↦ lt-leb count (11 - address) (omega arith) ∙ sym (spans-over (omega arith))
+      ]
+
+pub ruleset spanned = (spans-past, spans-none, spans-over, spans-fits, spans-by)
+
+pub ruleset tests = (pick-true, pick-false, and-both, and-none, and-first-fails, lt-ltb, le-ltb, le-leb, lt-leb, eq-eqb, ne-eqb)
+
+-- an arm knows its order
+module _ (o k : Order) where
+  pub to-head : (n : ℕ) (x : Head) → o ≡ k → x ≡ headOf k n → x ≡ headOf o n
+  to-head n x e f = f ∙ ap (λ (m : Order). headOf m n) (sym e)
+
+  pub to-due : (x : Due) → o ≡ k → fieldsWithin k ≡ true → x ≡ answerOf k → x ≡ dueOf o
+  unfolding dueOf
+  to-due x e h f = rw e (pick-true _ x _ _ h f)
+
+  pub to-due-told : (t : Bool) (x : Due) → o ≡ k → t ≡ fieldsWithin k → x ≡ pick t (answerOf k) Nothing → x ≡ dueOf o
+  unfolding dueOf
+  to-due-told t x e h f = rw (e, ← h) f
+
+-- an order by its number
+module _ (n ends address count : ℕ) where
+  pub to-order : (k : ℕ) (x : Named) → n ≡ k → x ≡ orderOf k ends address count → x ≡ orderOf n ends address count
+  to-order k x e f = f ∙ ap (λ (m : ℕ). orderOf m ends address count) (sym e)
+
+  beyond : 15 ≤ n → Unknown ≡ orderOf n ends address count
+  unfolding orderOf rows
+  beyond h = sym (List·getD-eq-default (rows ends address count) Unknown h)
+
+  -- the last arm knows the numbers that it is not
+  pub to-none : (n ≡ 2 → ⊥) → (n ≡ 3 → ⊥) → (n ≡ 4 → ⊥) → (n ≡ 5 → ⊥) → (n ≡ 6 → ⊥) → (n ≡ 7 → ⊥) → (n ≡ 8 → ⊥) → (n ≡ 9 → ⊥)
+      → (n ≡ 10 → ⊥) → (n ≡ 11 → ⊥) → (n ≡ 12 → ⊥) → (n ≡ 13 → ⊥) → (n ≡ 14 → ⊥) → Unknown ≡ orderOf n ends address count
+  unfolding orderOf rows
+  to-none h2 h3 h4 h5 h6 h7 h8 h9 h10 h11 h12 h13 h14 =
+      elim (decLe 2 n) [
+        | yes p ↦ beyond (past 14 h14 (past 13 h13 (past 12 h12 (past 11 h11 (past 10 h10 (past 9 h9 (past 8 h8 (past 7 h7 (past 6 h6
+            (past 5 h5 (past 4 h4 (past 3 h3 (past 2 h2 p)))))))))))))
+        | no p ↦ few n (omega arith)
+      ]
+    where
+      few : (m : ℕ) → m < 2 → Unknown ≡ orderOf m ends address count
+      few zero h = refl
+      few (suc zero) h = refl
+      few (suc (suc m)) h = absurd (omega arith)

@@ -1,0 +1,11 @@
+-- `read_back_head` meets 01's rows 6 and 7. Assumes nothing.
+use borrow.Author.Needs.{needs}
+use Rattle.frames.proofs.Laws.{tests}
+use Rattle.frames.proofs.rows.read_back_head.Statement.{statement}
+use Rattle.frames.proofs.rows.read_back_head.Tie as tie
+
+pub read-back-head-spec : {M : Type 1} → statement M
+read-back-head-spec =
+    tie.close
+    (tie.spec (λ c. search (needs, tests)) (λ c. search (needs, tests)) (λ c. search (needs, tests)) (λ c. search needs)
+    (λ c. search needs) (λ c. search needs) (λ c. search needs) (λ c. search (needs, tests)))

@@ -1,0 +1,42 @@
+-- The frame of an order, and what the writer leaves in a lent buffer (02 item 1). Assumes nothing.
+use mathlib.Core.List.{List, [], _∷_, _++_}
+use Prim.Native.Nat.{ℕ, _+_}
+use lib.Dec.{leb}
+use lib.ListN.{length, drop}
+use Rattle.base.specs.Pick.{pick}
+use Rattle.crc16.specs.Crc.{crcOf}
+use Rattle.frames.specs.Orders.{within, commandWord}
+use Rattle.frames.specs.declared.Order.{Order}
+use Rattle.frames.specs.declared.Written.{Written}
+use Rattle.frames.specs.declared.Written.the-variants.{Frame, OutsideLimits, BufferShort}
+
+-- words, and then their CRC word: "over command and data words" (01 Frames)
+abbrev pub checked : List ℕ → List ℕ
+checked ws = ws ++ (crcOf ws ∷ [])
+
+-- "Command word, data words, CRC word" (01 Frames)
+abbrev pub frameOf : Order → List ℕ → List ℕ
+frameOf o ws = checked (commandWord o (length ws) ∷ ws)
+
+-- the words of a frame beside its data words: command word and CRC word
+abbrev pub beside : ℕ
+beside = 2
+
+-- the front of a buffer written over; the cells beyond stay
+abbrev pub over : List ℕ → List ℕ → List ℕ
+over ws buffer = ws ++ drop (length ws) buffer
+
+-- what the writer answers, and the buffer as it leaves it
+pub record Out : Type 0 where
+  pub answer : Written
+  pub buffer : List ℕ
+
+abbrev pub out : Written → List ℕ → Out
+out answer buffer = record { answer = answer; buffer = buffer }
+
+-- "Refusals: 20 command outside 01's limits .., 21 buffer too short, in that order, buffer untouched"
+unfoldable pub writtenOf : Order → List ℕ → List ℕ → Out
+writtenOf o ws buffer =
+    pick (within o (length ws))
+    (pick (leb (length ws + beside) (length buffer)) (out (Frame (length ws + beside)) (over (frameOf o ws) buffer)) (out BufferShort buffer))
+    (out OutsideLimits buffer)

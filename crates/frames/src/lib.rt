@@ -1,0 +1,130 @@
+// The host's side of a frame (02, item 1): an order becomes the words to send, and the words that came back become STATUS or data. It knows the
+// command words and the CRC, and nothing of the bridge.
+ghost use mathlib.Core.Path.{_≡_};
+ghost use mathlib.Core.List.{_∷_};
+ghost use Prim.Native.Nat.{_+_, _≤_};
+ghost use lib.ListN.{length};
+ghost use Rattle.frames.specs.Answers.{isAnswer, toldOf};
+ghost use Rattle.frames.specs.Frames.{beside, checked, over, out, writtenOf};
+
+mod rows;
+
+pub use rows::order_of;
+
+// A command of 01's table, by the name that stands there, with the fields of its row that its data words do not give.
+pub enum Order {
+    FwdWrCrc,
+    FwdWr,
+    FwdWrEndCrc { ends: u16 },
+    FwdWrEnd { ends: u16 },
+    FwdRdEndCrc { ends: u16 },
+    FwdRdEnd { ends: u16 },
+    DataRdCrc { count: u16 },
+    DataRd { count: u16 },
+    RegWrCrc { address: u16 },
+    RegWr { address: u16 },
+    RegRdCrc { address: u16, count: u16 },
+    RegRd { address: u16, count: u16 },
+    SoftResetCrc,
+}
+
+// An order told by numbers, or that the numbers are no order's.
+pub enum Named {
+    Unknown,
+    Known(Order),
+}
+
+// An order's command word, where it is within its limits.
+pub enum Head {
+    Outside,
+    Word(u16),
+}
+
+// A frame of so many words, or a refusal: 20, 21.
+pub enum Written {
+    Frame(u16),
+    OutsideLimits,
+    BufferShort,
+}
+
+// What is due as an answer: STATUS, or so many words of data.
+pub enum Due {
+    Nothing,
+    StatusDue,
+    DataDue(u16),
+}
+
+// What an answer says: STATUS, so many words of data, or a refusal: 20.
+pub enum Told {
+    Status(u16),
+    Data(u16),
+    Refused,
+}
+
+// A frame's words at the front of a buffer that has room for them.
+fn fill(word: u16, words: &[u16], buffer: &mut [u16])
+    requires { ⌜ length (now words) + beside ≤ length (now buffer) ⌝ }
+    ensures { λ r. ⌜ now (buffer .exit) ≡ over (checked (word ∷ now (words .entry))) (now (buffer .entry)) ⌝ }
+{
+    buffer[0] = word;
+    let mut crc = crc16::crc_word(crc16::START, word);
+    let mut i: usize = 0;
+    while i < words.len() {
+        buffer[i + 1] = words[i];
+        crc = crc16::crc_word(crc, words[i]);
+        i = i + 1;
+    }
+    buffer[i + 1] = crc;
+}
+
+// The frame of an order with these data words, into a lent buffer. 4,096 words are more than any other order takes.
+pub fn write(order: Order, words: &[u16], buffer: &mut [u16]) -> Written
+    ensures { λ r. ⌜ out r (now (buffer .exit)) ≡ writtenOf order (now (words .entry)) (now (buffer .entry)) ⌝ }
+{
+    let count = words.len();
+    if 4096 < count {
+        return Written::OutsideLimits;
+    }
+    match rows::head(order, count as u16) {
+        Head::Outside => Written::OutsideLimits,
+        Head::Word(word) => {
+            if buffer.len() < count + 2 {
+                return Written::BufferShort;
+            }
+            fill(word, words, buffer);
+            Written::Frame(count as u16 + 2)
+        }
+    }
+}
+
+// So many words and then their CRC.
+fn is_answer(count: u16, answer: &[u16]) -> bool
+    ensures { λ r. ⌜ r ≡ isAnswer count (now (answer .entry)) ⌝ }
+{
+    let n = count as usize;
+    if answer.len() != n + 1 {
+        return false;
+    }
+    answer[n] == crc16::crc_list(&answer[..n])
+}
+
+// What the words say that came back for an order. The data stay where they are: the first so many words.
+pub fn read_answer(order: Order, answer: &[u16]) -> Told
+    ensures { λ r. ⌜ r ≡ toldOf order (now (answer .entry)) ⌝ }
+{
+    match rows::due(order) {
+        Due::Nothing => Told::Refused,
+        Due::StatusDue => {
+            if is_answer(1, answer) {
+                return Told::Status(answer[0]);
+            }
+            Told::Refused
+        }
+        Due::DataDue(count) => {
+            if is_answer(count, answer) {
+                return Told::Data(count);
+            }
+            Told::Refused
+        }
+    }
+}

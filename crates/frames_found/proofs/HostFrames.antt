@@ -1,0 +1,85 @@
+-- The theorems behind what was asked of the host's frames. Assumes nothing.
+use mathlib.Core.Path.{_≡_, refl, sym}
+use mathlib.Core.Bool.{true, _&&_}
+use mathlib.Core.List.{List}
+use Prim.Native.Nat.{ℕ, _+_, _≤_}
+use native.Mathlib.Omega.{arith}
+use lib.Dec.{ltb, leb, eqb}
+use lib.ListN.{length}
+use borrow.Author.Tests.{le-leb, ltb-true}
+use Rattle.base.specs.Pick.{pick, pick-true, and-both}
+use Rattle.frames.specs.Orders.{fieldsWithin, within, rows, orderOf}
+use Rattle.frames.specs.Frames.{beside, frameOf, over, out, writtenOf}
+use Rattle.frames.specs.declared.Order.{Order}
+use Rattle.frames.specs.declared.Order.the-variants.{FwdWrCrc, FwdWr, FwdWrEndCrc, FwdWrEnd, FwdRdEndCrc, FwdRdEnd, DataRdCrc, DataRd, RegWrCrc, RegWr, RegRdCrc, RegRd, SoftResetCrc}
+use Rattle.frames.specs.declared.Written.the-variants.{Frame}
+use Rattle.frames_found.specs.HostFrames.{Numbers, SomeWords, HostFrames}
+use Rattle.frames_found.proofs.Answered.{reads-back}
+use Rattle.frames_found.proofs.Decoding.{decodes}
+use Rattle.frames_found.proofs.Found.{found}
+use Rattle.frames_found.proofs.Inverse.{one-way, well-formed}
+use Rattle.frames_found.proofs.Silence.{silent}
+
+-- an order by its numbers
+numbered : (o : Order) → Numbers o
+unfolding orderOf rows pick
+numbered FwdWrCrc = record { number = 2; ends = 0; address = 0; count = 0; is = refl }
+numbered FwdWr = record { number = 3; ends = 0; address = 0; count = 0; is = refl }
+numbered (FwdWrEndCrc ends) = record { number = 4; ends = ends; address = 0; count = 0; is = refl }
+numbered (FwdWrEnd ends) = record { number = 5; ends = ends; address = 0; count = 0; is = refl }
+numbered (FwdRdEndCrc ends) = record { number = 6; ends = ends; address = 0; count = 0; is = refl }
+numbered (FwdRdEnd ends) = record { number = 7; ends = ends; address = 0; count = 0; is = refl }
+numbered (DataRdCrc count) = record { number = 8; ends = 0; address = 0; count = count; is = refl }
+numbered (DataRd count) = record { number = 9; ends = 0; address = 0; count = count; is = refl }
+numbered (RegWrCrc address) = record { number = 10; ends = 0; address = address; count = 0; is = refl }
+numbered (RegWr address) = record { number = 11; ends = 0; address = address; count = 0; is = refl }
+numbered (RegRdCrc address count) = record { number = 12; ends = 0; address = address; count = count; is = refl }
+numbered (RegRd address count) = record { number = 13; ends = 0; address = address; count = count; is = refl }
+numbered SoftResetCrc = record { number = 14; ends = 0; address = 0; count = 0; is = refl }
+
+written : (o : Order) (words buffer : List ℕ) → within o (length words) ≡ true → length words + beside ≤ length buffer
+    → out (Frame (length words + beside)) (over (frameOf o words) buffer) ≡ writtenOf o words buffer
+unfolding writtenOf
+written o words buffer h k = pick-true _ _ _ _ h (pick-true _ _ _ _ (le-leb _ _ k) refl)
+
+-- a number of words with which an order is written
+module _ (ends : ℕ) (h : leb ends 127 ≡ true) where
+  ends-alone : (leb ends 127 && leb 0 31) ≡ true
+  ends-alone = and-both (leb ends 127) (leb 0 31) h refl
+
+  ends-and-one : (leb ends 127 && (leb 1 1 && leb 1 32)) ≡ true
+  ends-and-one = and-both (leb ends 127) (leb 1 1 && leb 1 32) h refl
+
+one-register : (address : ℕ) → ltb address 11 ≡ true → (ltb address 11 && (leb 1 1 && leb (address + 1) 11)) ≡ true
+one-register address h =
+    let l = ltb-true address 11 h in
+    and-both (ltb address 11) (leb 1 1 && leb (address + 1) 11) h
+    (and-both (leb 1 1) (leb (address + 1) 11) refl (le-leb (address + 1) 11 (omega (arith, l))))
+
+answerable : (o : Order) → fieldsWithin o ≡ true → SomeWords o
+answerable FwdWrCrc h = record { some = 1; allowed = refl }
+answerable FwdWr h = record { some = 1; allowed = refl }
+answerable (FwdWrEndCrc ends) h = record { some = 0; allowed = ends-alone ends h }
+answerable (FwdWrEnd ends) h = record { some = 0; allowed = ends-alone ends h }
+answerable (FwdRdEndCrc ends) h = record { some = 1; allowed = ends-and-one ends h }
+answerable (FwdRdEnd ends) h = record { some = 1; allowed = ends-and-one ends h }
+answerable (DataRdCrc count) h = record { some = 0; allowed = and-both (leb 1 count && leb count 256) (eqb 0 0) h refl }
+answerable (DataRd count) h = record { some = 0; allowed = and-both (leb 1 count && leb count 256) (eqb 0 0) h refl }
+answerable (RegWrCrc address) h = record { some = 1; allowed = one-register address h }
+answerable (RegWr address) h = record { some = 1; allowed = one-register address h }
+answerable (RegRdCrc address count) h = record { some = 0; allowed = and-both (leb 1 count && leb (address + count) 11) (eqb 0 0) h refl }
+answerable (RegRd address count) h = record { some = 0; allowed = and-both (leb 1 count && leb (address + count) 11) (eqb 0 0) h refl }
+answerable SoftResetCrc h = record { some = 0; allowed = refl }
+
+pub host-frames : HostFrames
+host-frames = record {
+  numbered = numbered;
+  written = λ o words buffer h k. sym (written o words buffer h k);
+  decodes = decodes;
+  well-formed = well-formed;
+  one-way = one-way;
+  found = found;
+  reads-back = reads-back;
+  answerable = answerable;
+  silent = silent;
+}

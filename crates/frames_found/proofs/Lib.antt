@@ -1,0 +1,13 @@
+mod Decoding
+mod Inverse
+mod Turns
+mod Coming
+mod Collecting
+mod Meeting
+mod Found
+mod Ending
+mod Answering
+mod Answered
+mod Silence
+mod Examples
+pub mod HostFrames

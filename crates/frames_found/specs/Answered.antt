@@ -1,0 +1,87 @@
+-- What the bridge answers to an order, and that it reads back as such (02 item 1, "read the answer back as STATUS or data"). Assumes nothing.
+use mathlib.Core.Path.{_≡_}
+use mathlib.Core.Bool.{false}
+use mathlib.Core.List.{List, [], _∷_, _++_}
+use Prim.Native.Nat.{ℕ, _+_}
+use lib.Dec.{eqb}
+use lib.ListN.{length, take}
+use Rattle.base.specs.Bits.{bit}
+use Rattle.base.specs.Pick.{pick}
+use Rattle.command.specs.Layouts.{Layout, ours}
+use Rattle.registers.specs.Registers.{statusOf, readOf}
+use Rattle.state.specs.Rings.{oldest}
+use Rattle.plan.specs.Plan.{noAnswer}
+use Rattle.events.specs.declared.Event.{Event}
+use Rattle.events.specs.declared.Event.the-variants.{Power, Word, Release, Tick, Clock as ClockReading}
+use Rattle.bridge.specs.Runs.{Config, outOf, next}
+use Rattle.order.specs.Framed.{hostWords}
+use Rattle.frames.specs.Answers.{answerOf, toldOf}
+use Rattle.frames.specs.declared.Due.the-variants.{StatusDue, DataDue}
+use Rattle.frames.specs.declared.Order.{Order}
+use Rattle.frames.specs.declared.Order.the-variants.{FwdWrCrc, FwdWr, FwdWrEndCrc, FwdWrEnd, FwdRdEndCrc, FwdRdEnd, DataRdCrc, DataRd, RegWrCrc, RegWr, RegRdCrc, RegRd, SoftResetCrc}
+use Rattle.frames.specs.declared.Told.the-variants.{Status, Data}
+
+-- the SDO words of a run, one for each host word: what the host reads
+unfoldable pub sdoAt : Event → ℕ → List ℕ
+sdoAt (Power good) w = []
+sdoAt (Word word) w = w ∷ []
+sdoAt Release w = []
+sdoAt (Tick sin) w = []
+sdoAt (ClockReading reading) w = []
+
+unfoldable pub sdoIn : Layout → Config → List Event → List ℕ
+sdoIn l c [] = []
+sdoIn l c (e ∷ es) = sdoAt e (outOf l c e .answer .sdo) ++ sdoIn l (next l c e) es
+
+-- "Reads answer the words, each read as it is answered" (01 Frames): the next of the values that an order asks for, as it is at that moment. The oldest word
+-- of RX, or 0xFFFF where there is none (note 15); the register at an address.
+abbrev pub rxWord : Config → ℕ
+rxWord c = pick (eqb (c .bridge .receiving .rx .count) 0) noAnswer (oldest (c .rx) (c .bridge .receiving .rx))
+
+abbrev pub register : Config → ℕ → ℕ
+register c address = readOf (c .bridge .control) (c .bridge .sending .tx .count) (c .bridge .receiving .rx .count) address
+
+-- the bridge and its stores as each host word of a run finds them
+unfoldable pub momentAt : Config → Event → List Config
+momentAt c (Power good) = []
+momentAt c (Word w) = c ∷ []
+momentAt c Release = []
+momentAt c (Tick sin) = []
+momentAt c (ClockReading reading) = []
+
+unfoldable pub momentsIn : Layout → Config → List Event → List Config
+momentsIn l c [] = []
+momentsIn l c (e ∷ es) = momentAt c e ++ momentsIn l (next l c e) es
+
+-- words of RX, one at each moment; registers from an address on, one at each moment
+unfoldable pub handedAt : List Config → List ℕ
+handedAt [] = []
+handedAt (c ∷ cs) = rxWord c ∷ handedAt cs
+
+unfoldable pub registersAt : ℕ → List Config → List ℕ
+registersAt address [] = []
+registersAt address (c ∷ cs) = register c address ∷ registersAt (address + 1) cs
+
+-- the data that an order asks for
+unfoldable pub dataAt : Order → List Config → List ℕ
+dataAt FwdWrCrc cs = []
+dataAt FwdWr cs = []
+dataAt (FwdWrEndCrc ends) cs = []
+dataAt (FwdWrEnd ends) cs = []
+dataAt (FwdRdEndCrc ends) cs = []
+dataAt (FwdRdEnd ends) cs = []
+dataAt (DataRdCrc count) cs = handedAt (take count cs)
+dataAt (DataRd count) cs = handedAt (take count cs)
+dataAt (RegWrCrc address) cs = []
+dataAt (RegWr address) cs = []
+dataAt (RegRdCrc address count) cs = registersAt address (take count cs)
+dataAt (RegRd address count) cs = registersAt address (take count cs)
+dataAt SoftResetCrc cs = []
+
+-- c is as the frame's CRC word left it, and es brings as many host words as the answer has. "unless SPICTRL bit 0 is 1" (01 Frames).
+pub record ReadsBack (o : Order) (c : Config) (es : List Event) : Type 0 where
+  -- "STATUS and its CRC .. taken at the CRC word after its effects"
+  pub status : answerOf o ≡ StatusDue → bit 0 (c .bridge .control .regs .spictrl) ≡ false → length (hostWords es) ≡ 2
+      → toldOf o (sdoIn ours c es) ≡ Status (statusOf (c .bridge .control))
+  pub data-told : (count : ℕ) → answerOf o ≡ DataDue count → length (hostWords es) ≡ count + 1 → toldOf o (sdoIn ours c es) ≡ Data count
+  pub data-is : (count : ℕ) → answerOf o ≡ DataDue count → length (hostWords es) ≡ count + 1 → take count (sdoIn ours c es) ≡ dataAt o (momentsIn ours c es)

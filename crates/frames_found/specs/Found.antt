@@ -1,0 +1,100 @@
+-- What the bridge finds in a host's words, over its own rules (02 item 1, "the bridge's reader finds that same command"; `plannedIn` of crates/host says what
+-- each part then does). Assumes nothing.
+use mathlib.Core.Path.{_≡_}
+use mathlib.Core.Bool.{Bool, true, false, _&&_, _||_}
+use mathlib.Core.List.{List, [], _∷_, _++_}
+use Prim.Native.Nat.{ℕ, suc}
+use lib.Dec.{ltb, eqb}
+use lib.ListN.{length}
+use Rattle.base.specs.Pick.{pick}
+use Rattle.command.specs.Layouts.{Layout, ours}
+use Rattle.command.specs.declared.Command.{Command}
+use Rattle.rules.specs.Sound.{sound}
+use Rattle.state.specs.Frame.{dataWords}
+use Rattle.state.specs.Notes.{noteNumber}
+use Rattle.state.specs.Queue.{places}
+use Rattle.state.specs.declared.Note.{Note}
+use Rattle.state.specs.declared.Phase.{Phase}
+use Rattle.state.specs.declared.Phase.the-variants.{Idle, Collecting, Answering, Discarding}
+use Rattle.events.specs.declared.Event.{Event}
+use Rattle.events.specs.declared.Event.the-variants.{Power, Word, Release, Tick, Clock as ClockReading}
+use Rattle.bridge.specs.Runs.{Config, RightStores, outOf, next}
+use Rattle.frames.specs.Orders.{meant}
+use Rattle.frames.specs.declared.Order.{Order}
+
+-- What a host word is to the frame that it meets: it opens one with this command, brings the data word of this number (from 0), or closes it with a CRC word,
+-- right or not. During an answer, and while words are discarded, it is none of these.
+pub data Part : Type 0 where
+  opens : Command → Part
+  brings : Command → ℕ → ℕ → Part
+  closes : Command → Bool → Part
+  apart : Part
+
+unfoldable pub partOf : Layout → Phase → ℕ → Part
+partOf l Idle w = opens (l .decode w)
+partOf l (Collecting command got sum mine released blocked) w =
+    pick (ltb got (dataWords command)) (brings command got w) (closes command (eqb w sum))
+partOf l (Answering reply sum) w = apart
+partOf l Discarding w = apart
+
+-- the parts of a run, one for each host word
+unfoldable pub partAt : Layout → Config → Event → List Part
+partAt l c (Power good) = []
+partAt l c (Word w) = partOf l (c .bridge .frame .phase) w ∷ []
+partAt l c Release = []
+partAt l c (Tick sin) = []
+partAt l c (ClockReading reading) = []
+
+unfoldable pub partsIn : Layout → Config → List Event → List Part
+partsIn l c [] = []
+partsIn l c (e ∷ es) = partAt l c e ++ partsIn l (next l c e) es
+
+-- the notes of its host words
+unfoldable pub noteAt : Event → Note → List Note
+noteAt (Power good) n = []
+noteAt (Word w) n = n ∷ []
+noteAt Release n = []
+noteAt (Tick sin) n = []
+noteAt (ClockReading reading) n = []
+
+unfoldable pub notesIn : Layout → Config → List Event → List Note
+notesIn l c [] = []
+notesIn l c (e ∷ es) = noteAt e (outOf l c e .answer .note) ++ notesIn l (next l c e) es
+
+-- done, or refused for what the bridge holds: notes 5, 8, 9, 10, 11; never for the frame's form or CRC (01 Notes)
+abbrev pub isOfState : Note → Bool
+isOfState n =
+    eqb (noteNumber n) 0 || eqb (noteNumber n) 5 || eqb (noteNumber n) 8 || eqb (noteNumber n) 9 || eqb (noteNumber n) 10 || eqb (noteNumber n) 11
+
+unfoldable pub allOfState : List Note → Bool
+allOfState [] = true
+allOfState (n ∷ ns) = isOfState n && allOfState ns
+
+-- the parts that an order's frame should be: "open that command, bring exactly those words and close with a right CRC word"
+unfoldable pub partsFrom : Command → ℕ → List ℕ → List Part
+partsFrom command got [] = closes command true ∷ []
+partsFrom command got (w ∷ ws) = brings command got w ∷ partsFrom command (suc got) ws
+
+unfoldable pub partsFor : Order → List ℕ → List Part
+partsFor o ws = opens (meant o (length ws)) ∷ partsFrom (meant o (length ws)) 0 ws
+
+-- Chip select stays and the supply does: words, with ticks and clock readings between them at will.
+unfoldable pub unbroken : List Event → Bool
+unbroken [] = true
+unbroken (Power good ∷ es) = false
+unbroken (Word w ∷ es) = unbroken es
+unbroken (Release ∷ es) = false
+unbroken (Tick sin ∷ es) = unbroken es
+unbroken (ClockReading reading ∷ es) = unbroken es
+
+-- "from any record that obeys the rules with its frame idle". The code's type has an array of eight places.
+pub record Awaits (c : Config) : Type 0 where
+  pub stores : RightStores (c .tx) (c .rx)
+  pub rules : sound (c .bridge) ≡ true
+  pub eight : length (c .bridge .sending .queue .places) ≡ places
+  pub idle : c .bridge .frame .phase ≡ Idle
+
+-- what a run is, in which the words of an order's frame came
+pub record Found (o : Order) (words : List ℕ) (c : Config) (es : List Event) : Type 0 where
+  pub parts-are : partsIn ours c es ≡ partsFor o words
+  pub notes-are : allOfState (notesIn ours c es) ≡ true

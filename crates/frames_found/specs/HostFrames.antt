@@ -1,0 +1,57 @@
+-- What was asked of the host's frames, in the words of 02 item 1, which stand here in quotes. Read this file from top to bottom; `proofs/HostFrames.antt`
+-- cites the theorem behind each. `within`, `frameOf`, `writtenOf` and `toldOf` are crates/frames/specs, and the contracts of `frames::write` and
+-- `frames::read_answer` say that the code does what `writtenOf` and `toldOf` say, for every input. Assumes nothing.
+use mathlib.Core.Path.{_≡_}
+use mathlib.Core.Bool.{true}
+use mathlib.Core.List.{List, [], _∷_, _++_}
+use Prim.Native.Nat.{ℕ, _+_, _≤_}
+use lib.ListN.{length}
+use Rattle.command.specs.Layout.{decodeOurs}
+use Rattle.command.specs.Layouts.{ours}
+use Rattle.events.specs.declared.Event.{Event}
+use Rattle.events.specs.declared.Event.the-variants.{Word}
+use Rattle.bridge.specs.Runs.{Config, endOf}
+use Rattle.order.specs.Framed.{hostWords}
+use Rattle.frames.specs.Orders.{fieldsWithin, within, commandWord, meant, orderOf}
+use Rattle.frames.specs.Frames.{beside, frameOf, over, out, writtenOf}
+use Rattle.frames.specs.declared.Named.the-variants.{Known}
+use Rattle.frames.specs.declared.Order.{Order}
+use Rattle.frames.specs.declared.Written.the-variants.{Frame}
+use Rattle.frames_found.specs.Answered.{ReadsBack}
+use Rattle.frames_found.specs.Found.{Awaits, unbroken, Found}
+use Rattle.frames_found.specs.Frames.{WellFormed, OneWay}
+use Rattle.frames_found.specs.Silence.{Silent}
+
+-- an order's row of numbers, and a number of data words that it takes
+pub record Numbers (o : Order) : Type 0 where
+  pub number : ℕ
+  pub ends : ℕ
+  pub address : ℕ
+  pub count : ℕ
+  pub is : orderOf number ends address count ≡ Known o
+
+pub record SomeWords (o : Order) : Type 0 where
+  pub some : ℕ
+  pub allowed : within o some ≡ true
+
+pub record HostFrames : Type 0 where
+  -- "Every command that 01 allows can be written": by its numbers too, and in a buffer with room for it.
+  pub numbered : (o : Order) → Numbers o
+  pub written : (o : Order) (words buffer : List ℕ) → within o (length words) ≡ true → length words + beside ≤ length buffer
+      → writtenOf o words buffer ≡ out (Frame (length words + beside)) (over (frameOf o words) buffer)
+  -- ".. and the bridge's reader finds that same command": its decoding does, of the command word, and the frame has that command's data words and a right CRC word.
+  pub decodes : (o : Order) (n : ℕ) → within o n ≡ true → decodeOurs (commandWord o n) ≡ meant o n
+  pub well-formed : (o : Order) (words : List ℕ) → within o (length words) ≡ true → WellFormed (frameOf o words)
+  -- "every well-formed frame is one the writer gives", and for exactly one order and words.
+  pub one-way : (frame : List ℕ) → WellFormed frame → OneWay frame
+  -- The bridge itself finds it, from any record that obeys the rules with its frame idle and whatever ticks and clock readings come between the words.
+  pub found : (o : Order) (words : List ℕ) (c : Config) (es : List Event) → within o (length words) ≡ true → Awaits c → unbroken es ≡ true
+      → hostWords es ≡ frameOf o words → Found o words c es
+  -- "read the answer back as STATUS or data": what the bridge answers after the frame's CRC word, w, reads back as what it answered.
+  pub reads-back : (o : Order) (words : List ℕ) (c : Config) (es : List Event) (w : ℕ) (after : List Event) → within o (length words) ≡ true → Awaits c
+      → unbroken es ≡ true → hostWords (es ++ (Word w ∷ [])) ≡ frameOf o words → unbroken after ≡ true
+      → ReadsBack o (endOf ours c (es ++ (Word w ∷ []))) after
+  -- An order whose fields are within their limits has a number of words with which it is written; the reader of answers refuses the others.
+  pub answerable : (o : Order) → fieldsWithin o ≡ true → SomeWords o
+  -- Words of 1s alone are no answer.
+  pub silent : Silent

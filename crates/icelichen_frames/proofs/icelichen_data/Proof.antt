@@ -1,0 +1,10 @@
+-- `icelichen_data` meets its contract.
+use borrow.Author.Needs.{needs}
+use Rattle.icelichen_frames.proofs.Laws.{data-told}
+use Rattle.icelichen_frames.proofs.icelichen_data.Statement.{statement}
+use Rattle.icelichen_frames.proofs.icelichen_data.Tie as tie
+
+pub icelichen-data-spec : {M : Type 1} → statement M
+icelichen-data-spec =
+    tie.close
+    (tie.spec (λ c κs. search needs) (λ c κs. search needs) (λ c. search (needs, data-told)))

@@ -1,0 +1,91 @@
+// Host frames for programs in C (02, item 1): the functions of include/icelichen_frames.h. They ask nothing of their caller but pointers that are
+// good for their lengths.
+ghost use mathlib.Core.Path.{_≡_};
+ghost use Rattle.frames.specs.Orders.{orderOf};
+ghost use Rattle.icelichen_frames.specs.Codes.{writtenCode, statusCode, dataCode, coded, frameFor, toldFor};
+use frames::Named;
+use frames::Told;
+use frames::Written;
+
+fn written_code(written: Written) -> i32
+    ensures { λ r. ⌜ r ≡ writtenCode written ⌝ }
+{
+    match written {
+        Written::Frame(words) => words as i32,
+        Written::OutsideLimits => -20,
+        Written::BufferShort => -21,
+    }
+}
+
+fn status_code(told: Told) -> i32
+    ensures { λ r. ⌜ r ≡ statusCode told ⌝ }
+{
+    match told {
+        Told::Status(value) => value as i32,
+        Told::Data(_) => -20,
+        Told::Refused => -20,
+    }
+}
+
+fn data_code(told: Told) -> i32
+    ensures { λ r. ⌜ r ≡ dataCode told ⌝ }
+{
+    match told {
+        Told::Status(_) => -20,
+        Told::Data(count) => count as i32,
+        Told::Refused => -20,
+    }
+}
+
+#[no_mangle]
+pub extern "C" fn icelichen_frame(
+    command: u16,
+    ends: u16,
+    address: u16,
+    count: u16,
+    words: &[u16],
+    buffer: &mut [u16],
+) -> i32
+    ensures { λ r. ⌜ coded r (now (buffer .exit)) ≡ frameFor (orderOf command ends address count) (now (words .entry)) (now (buffer .entry)) ⌝ }
+{
+    match frames::order_of(command, ends, address, count) {
+        Named::Unknown => -20,
+        Named::Known(order) => written_code(frames::write(order, words, buffer)),
+    }
+}
+
+// What an answer says; of no order, nothing.
+fn told(command: u16, ends: u16, address: u16, count: u16, answer: &[u16]) -> Told
+    ensures { λ r. ⌜ r ≡ toldFor (orderOf command ends address count) (now (answer .entry)) ⌝ }
+{
+    match frames::order_of(command, ends, address, count) {
+        Named::Unknown => Told::Refused,
+        Named::Known(order) => frames::read_answer(order, answer),
+    }
+}
+
+#[no_mangle]
+pub extern "C" fn icelichen_status(
+    command: u16,
+    ends: u16,
+    address: u16,
+    count: u16,
+    answer: &[u16],
+) -> i32
+    ensures { λ r. ⌜ r ≡ statusCode (toldFor (orderOf command ends address count) (now (answer .entry))) ⌝ }
+{
+    status_code(told(command, ends, address, count, answer))
+}
+
+#[no_mangle]
+pub extern "C" fn icelichen_data(
+    command: u16,
+    ends: u16,
+    address: u16,
+    count: u16,
+    answer: &[u16],
+) -> i32
+    ensures { λ r. ⌜ r ≡ dataCode (toldFor (orderOf command ends address count) (now (answer .entry))) ⌝ }
+{
+    data_code(told(command, ends, address, count, answer))
+}

@@ -1,0 +1,136 @@
+#!/usr/bin/env python3
+"""The library for C (include/icelichen_frames.h), built, linked by the machine's C compiler and tried.
+
+1. tests/frames/trial.c linked with the library and with tests/frames/model.c, a program of 02's item 1 by another hand, with another CRC: every
+   byte that they print is equal. It goes through all command words that 01 allows, limits, buffers with guards around them, answers right and
+   wrong. The C side runs with gcc's sanitizers too.
+2. tests/frames/sent.c: the library's frame for every command word that 01 allows goes to the bridge, its notes are none of a wrong frame's, and
+   the library reads its answer as that order's. The bridge is the independent program (tests/model) for all of them, and the bench program from
+   its source for all but the middle lengths of FWD_WR, which are 8 million words; where both run, every byte is equal.
+3. examples/c/call_up.c prints what examples/c/call_up.out says, and its frames are those of tools/frames.py.
+
+The library is proved first: about a minute. On another machine than x86-64, and without gcc, this says so and tries nothing.
+"""
+import concurrent.futures
+import os
+import pathlib
+import platform
+import shutil
+import subprocess
+import sys
+import tempfile
+
+TESTS = pathlib.Path(__file__).resolve().parent
+ROOT = TESTS.parent
+sys.dont_write_bytecode = True
+sys.path[:0] = [str(TESTS / "model"), str(ROOT / "tools")]
+import frames  # noqa: E402
+from pair import built_model, difference  # noqa: E402
+
+LIBRARY = ROOT / "target/staticlib/libicelichen_frames.a"
+MOST_EVENTS = 60_000  # whose lines are under what `rt try` lets a program print
+FWD_WR = 3
+STRICT = ["-std=c11", "-Wall", "-Wextra", "-Werror", "-O2", f"-I{ROOT / 'include'}"]
+SANITIZED = ["-fsanitize=address,undefined", "-fno-sanitize-recover=all"]
+
+
+def library():
+    """Proves the library and makes its archive."""
+    print("c_library: proving the library for C ..", flush=True)
+    ran = subprocess.run(["rt", "staticlib", "icelichen_frames"], cwd=ROOT, capture_output=True, text=True)
+    if ran.returncode or not LIBRARY.exists():
+        sys.exit("c_library: the library is not built\n" + (ran.stdout + ran.stderr)[-2000:])
+
+
+def compiled(program, *parts):
+    subprocess.check_call(["gcc", *STRICT, *parts, "-o", program])
+    return program
+
+
+def printed(*words):
+    ran = subprocess.run(words, capture_output=True)
+    if ran.returncode:
+        sys.exit(f"c_library: {words[0].name} ended with status {ran.returncode}\n" + (ran.stdout[-1000:] + ran.stderr[-1000:]).decode(errors="replace"))
+    return ran.stdout
+
+
+def tried(work):
+    """The library and the other hand's program, line by line."""
+    trial, model = TESTS / "frames/trial.c", TESTS / "frames/model.c"
+    ours = printed(compiled(work / "trial", trial, LIBRARY)).splitlines()
+    theirs = printed(compiled(work / "trial_model", trial, model)).splitlines()
+    watched = printed(compiled(work / "trial_watched", *SANITIZED, trial, LIBRARY)).splitlines()
+    for name, other in (("the other program", theirs), ("itself with sanitizers", watched)):
+        if ours != other:
+            at = next((i for i, pair in enumerate(zip(ours, other)) if pair[0] != pair[1]), min(len(ours), len(other)))
+            sys.exit(f"c_library: line {at + 1} differs from {name}: {ours[at:at + 1]}, {other[at:at + 1]}")
+    print(f"c_library: {len(ours)} lines of the library and of the other program agree: {ours[-2].decode()}; {ours[-1].decode()}", flush=True)
+
+
+def plan(sent):
+    """The orders in parts: first, last, command, and whether the bench program runs the part too."""
+    parts = [tuple(map(int, line.split())) for line in printed(sent, "plan", str(MOST_EVENTS)).splitlines()]
+    long = [part for part in parts if part[2] == FWD_WR]
+    for part in parts:
+        yield *part[:2], part[3], part not in long[1:-1]
+
+
+def sent_part(work, sent, model, part):
+    """One part through the bridge: its counts, and whether the bench program ran it."""
+    first, last, _, both = part
+    script = printed(sent, "script", str(first), str(last))
+    place = work / f"part{first}"
+    place.mkdir()
+    (place / "script").write_bytes(script)
+    with subprocess.Popen([model, place / "script"], stdout=subprocess.PIPE) as run:
+        judged = subprocess.run([sent, "judge", str(first), str(last)], stdin=run.stdout, capture_output=True, text=True)
+    if judged.returncode:
+        sys.exit("c_library: " + judged.stderr)
+    found = difference(place, model, script) if both else None
+    if found:
+        sys.exit(f"c_library: the bench and the independent program differ on orders {first} to {last}\n{found}")
+    return judged.stdout.strip()
+
+
+def sent_all(work):
+    sent, model = compiled(work / "sent", TESTS / "frames/sent.c", LIBRARY), built_model(work)
+    parts = list(plan(sent))
+    with concurrent.futures.ThreadPoolExecutor(os.cpu_count()) as pool:
+        said = list(pool.map(lambda part: sent_part(work, sent, model, part), parts))
+    orders = sum(int(line.split()[0]) for line in said)
+    by_bench = sum(int(line.split()[0]) for line, part in zip(said, parts) if part[3])
+    events = sum(part[2] for part in parts)
+    if orders != parts[-1][1] + 1:
+        sys.exit(f"c_library: {orders} of {parts[-1][1] + 1} orders were judged")
+    print(f"c_library: {orders} command words, {events} events: every frame found, every answer read; {by_bench} by the bench program", flush=True)
+
+
+def example(work):
+    """The example's words, and its frames by the tools' table."""
+    text = printed(compiled(work / "call_up", ROOT / "examples/c/call_up.c", LIBRARY)).decode()
+    if text != (ROOT / "examples/c/call_up.out").read_text():
+        sys.exit("c_library: examples/c/call_up.c prints other words than examples/c/call_up.out:\n" + text)
+    for order in ("FWD_WR_CRC AA05 1234 5678", "FWD_WR_CRC AAF0", "REG_RD_CRC address=3 count=2"):
+        words = " ".join("%04X" % word for word in frames.order(order.split()))
+        if f": {words}\n" not in text:
+            sys.exit(f"c_library: the example does not print {words}, the frame of {order}")
+    print("c_library: the example for C prints what it should")
+
+
+def main():
+    if platform.machine() not in ("x86_64", "AMD64"):
+        print(f"c_library: skipped: the library for C is for x86-64, this machine is {platform.machine()}")
+        return
+    if not shutil.which("gcc"):
+        print("c_library: skipped: there is no gcc")
+        return
+    library()
+    with tempfile.TemporaryDirectory() as folder:
+        work = pathlib.Path(folder)
+        tried(work)
+        sent_all(work)
+        example(work)
+
+
+if __name__ == "__main__":
+    main()
