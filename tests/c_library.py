@@ -64,7 +64,8 @@ def tried(work):
         if ours != other:
             at = next((i for i, pair in enumerate(zip(ours, other)) if pair[0] != pair[1]), min(len(ours), len(other)))
             sys.exit(f"c_library: line {at + 1} differs from {name}: {ours[at:at + 1]}, {other[at:at + 1]}")
-    print(f"c_library: {len(ours)} lines of the library and of the other program agree: {ours[-2].decode()}; {ours[-1].decode()}", flush=True)
+    words = next(line for line in ours if line.startswith(b"all: ")).decode()
+    print(f"c_library: {len(ours)} lines of the library and of the other program agree, with {words.removeprefix('all: ')}", flush=True)
 
 
 def plan(sent):
