@@ -4,9 +4,9 @@
 1. tests/frames/trial.c linked with the library and with tests/frames/model.c, a program of 02's item 1 by another hand, with another CRC: every
    byte that they print is equal. It goes through all command words that 01 allows, limits, buffers with guards around them, answers right and
    wrong. The C side runs with gcc's sanitizers too.
-2. tests/frames/sent.c: the library's frame for every command word that 01 allows goes to the bridge, its notes are none of a wrong frame's, and
-   the library reads its answer as that order's. The bridge is the independent program (tests/model) for all of them, and the bench program from
-   its source for all but the middle lengths of FWD_WR, which are 8 million words; where both run, every byte is equal.
+2. tests/frames/sent.c: the library's frame for every command word that 01 allows goes to the bench program, its notes are none of a wrong
+   frame's, and the library reads its answer as that order's. The bench program is compiled from its source without its proof
+   (tests/mutation/outside.py), and the independent program (tests/model) prints the same of each script, byte for byte.
 3. examples/c/call_up.c prints what examples/c/call_up.out says, and its frames are those of tools/frames.py.
 
 The library is proved first: about a minute. On another machine than x86-64, and without gcc, this says so and tries nothing.
@@ -23,13 +23,13 @@ import tempfile
 TESTS = pathlib.Path(__file__).resolve().parent
 ROOT = TESTS.parent
 sys.dont_write_bytecode = True
-sys.path[:0] = [str(TESTS / "model"), str(ROOT / "tools")]
+sys.path[:0] = [str(TESTS / "model"), str(TESTS / "mutation"), str(ROOT / "tools")]
 import frames  # noqa: E402
-from pair import built_model, difference  # noqa: E402
+import outside  # noqa: E402
+from pair import built_model  # noqa: E402
 
 LIBRARY = ROOT / "target/staticlib/libicelichen_frames.a"
-MOST_EVENTS = 60_000  # whose lines are under what `rt try` lets a program print
-FWD_WR = 3
+MOST_EVENTS = 500_000  # of a script
 STRICT = ["-std=c11", "-Wall", "-Wextra", "-Werror", "-O2", f"-I{ROOT / 'include'}"]
 SANITIZED = ["-fsanitize=address,undefined", "-fno-sanitize-recover=all"]
 
@@ -68,42 +68,35 @@ def tried(work):
     print(f"c_library: {len(ours)} lines of the library and of the other program agree, with {words.removeprefix('all: ')}", flush=True)
 
 
-def plan(sent):
-    """The orders in parts: first, last, command, and whether the bench program runs the part too."""
-    parts = [tuple(map(int, line.split())) for line in printed(sent, "plan", str(MOST_EVENTS)).splitlines()]
-    long = [part for part in parts if part[2] == FWD_WR]
-    for part in parts:
-        yield *part[:2], part[3], part not in long[1:-1]
-
-
-def sent_part(work, sent, model, part):
-    """One part through the bridge: its counts, and whether the bench program ran it."""
-    first, last, _, both = part
-    script = printed(sent, "script", str(first), str(last))
-    place = work / f"part{first}"
-    place.mkdir()
-    (place / "script").write_bytes(script)
-    with subprocess.Popen([model, place / "script"], stdout=subprocess.PIPE) as run:
-        judged = subprocess.run([sent, "judge", str(first), str(last)], stdin=run.stdout, capture_output=True, text=True)
+def sent_part(work, sent, programs, part):
+    """One part through both bridges: how many orders were judged."""
+    first, last, command, _ = part
+    script = work / f"part{first}"
+    script.write_bytes(printed(sent, "script", first, last))
+    ours, theirs = (subprocess.run([*program, *words], stdin=open(script, "rb"), capture_output=True, check=True).stdout
+                    for program, words in ((programs[0], []), (programs[1], [script])))
+    if ours != theirs:
+        sys.exit(f"c_library: the bench and the independent program differ on orders {first} to {last}, of command {command}")
+    judged = subprocess.run([sent, "judge", first, last], input=ours, capture_output=True)
     if judged.returncode:
-        sys.exit("c_library: " + judged.stderr)
-    found = difference(place, model, script) if both else None
-    if found:
-        sys.exit(f"c_library: the bench and the independent program differ on orders {first} to {last}\n{found}")
-    return judged.stdout.strip()
+        sys.exit("c_library: " + judged.stderr.decode())
+    script.unlink()
+    return int(judged.stdout.split()[0])
 
 
 def sent_all(work):
     sent, model = compiled(work / "sent", TESTS / "frames/sent.c", LIBRARY), built_model(work)
-    parts = list(plan(sent))
+    place = outside.copies(work, 1).get()
+    if not outside.compiled(place, "bench"):
+        sys.exit("c_library: the bench program is not compiled: " + (place / "said").read_text()[-1000:])
+    programs = [*outside.runner(), place / "program"], [model]
+    parts = [line.split() for line in printed(sent, "plan", str(MOST_EVENTS)).decode().splitlines()]
     with concurrent.futures.ThreadPoolExecutor(os.cpu_count()) as pool:
-        said = list(pool.map(lambda part: sent_part(work, sent, model, part), parts))
-    orders = sum(int(line.split()[0]) for line in said)
-    by_bench = sum(int(line.split()[0]) for line, part in zip(said, parts) if part[3])
-    events = sum(part[2] for part in parts)
-    if orders != parts[-1][1] + 1:
-        sys.exit(f"c_library: {orders} of {parts[-1][1] + 1} orders were judged")
-    print(f"c_library: {orders} command words, {events} events: every frame found, every answer read; {by_bench} by the bench program", flush=True)
+        orders = sum(pool.map(lambda part: sent_part(work, sent, programs, part), parts))
+    if orders != int(parts[-1][1]) + 1:
+        sys.exit(f"c_library: {orders} of {int(parts[-1][1]) + 1} orders were judged")
+    events = sum(int(part[3]) for part in parts)
+    print(f"c_library: {orders} command words, {events} events of the bench program: every frame found, every answer read", flush=True)
 
 
 def example(work):

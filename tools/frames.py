@@ -81,7 +81,7 @@ def check_fields(name, fields):
     for field in own:
         least, most, where = limits(name, field, fields)
         value = str(fields.get(field, ""))
-        if not re.fullmatch("[0-9]{1,5}", value) or not least <= int(value) <= most:
+        if not re.fullmatch("[0-9]+", value) or not least <= int(value) <= most:
             refuse("%s=%s for %s" % (field, span(least, most), where), ["%s=%s" % (field, value)] if field in fields else "none")
 
 

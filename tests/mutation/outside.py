@@ -5,8 +5,9 @@ outside.py [--write] [CRATE..]    all of the list, or those of the named crates;
 
 Each change is made in a copy, compiled without its proof and with the compiler's assumptions checked, and run until something tells it: the
 examples, the guide's texts, the texts of tests/edges, the scripts of tests/broken.py and the random scripts of the gate (tests/random_scripts.py), all by
-the bench program against the independent program; then every program of the gate against its stored output. Told: another byte, another exit
-status, or no end. Every crate stands below the bench program but `drain`; a change is run only by programs whose code has its crate.
+the bench program against the independent program; then every program of the gate against its stored output, and the filter of host frames on
+orders at their limits (tests/frames_text.py). Told: another byte, another exit status, or no end. Every crate stands below the bench program but
+`drain` and `frames`; a change is run only by programs whose code has its crate.
 Where no run can tell a change, the list says why; exit status 1 where a change is not told and has no reason, or is told and has one.
 """
 import concurrent.futures
@@ -145,6 +146,17 @@ def stored_cases():
         yield crate.name, crate.name, args.read_text().splitlines(), stdin, stdout
 
 
+def order_cases(work):
+    """The filter of host frames on lines at both sides of each limit, one a text, since a wrong line leaves nothing printed."""
+    import frames_text  # which uses this module's compiler
+
+    for at, line in enumerate(frames_text.at_limits()):
+        given, expected = work / f"order{at}", work / f"order{at}.out"
+        given.write_bytes(line)
+        expected.write_text(frames_text.expected(line)[0])
+        yield "frames_main", "orders at their limits", [], given, expected
+
+
 def cases(work):
     """All that is run: program, name, arguments, input, expected output. One program's cases stand together."""
     model = built_model(work)
@@ -156,6 +168,7 @@ def cases(work):
             subprocess.run([model, given], stdout=out, check=True)
         yield BENCH, name, [], given, expected
     yield from stored_cases()
+    yield from order_cases(work)
 
 
 def crates_below():
