@@ -31,7 +31,7 @@ use Rattle.frames.specs.declared.Order.the-variants.{FwdWrCrc, FwdWr, FwdWrEndC
 use Rattle.frames.specs.declared.Told.the-variants.{Status, Data}
 use Rattle.frames.proofs.Reading.{tells-status, tells-data}
 use Rattle.frames_found.specs.Found.{unbroken, Awaits}
-use Rattle.frames_found.specs.Answered.{sdoIn, momentsIn, dataAt, ReadsBack}
+use Rattle.frames_found.specs.Answered.{sdoIn, foundBy, dataAt, ReadsBack}
 use Rattle.frames_found.proofs.Decoding.{bounds}
 use Rattle.frames_found.proofs.Turns.{phaseOf}
 use Rattle.frames_found.proofs.Collecting.{afterFrame}
@@ -99,7 +99,7 @@ module _ (n : ℕ) (c : Config) (es : List Event) (u : unbroken es ≡ true) whe
   -- the words that a read gives
   module _ (count : ℕ) (l : length (hostWords es) ≡ count + 1) where
     data-given : (o : Order) → within o n ≡ true → Answers (meant o n) c → answerOf o ≡ DataDue count
-        → Given count start (dataAt o (momentsIn ours c es)) (sdoIn ours c es)
+        → Given count start (dataAt o (foundBy ours c es)) (sdoIn ours c es)
     unfolding dataAt
     data-given FwdWrCrc h a e = not-data count e
     data-given FwdWr h a e = not-data count e
@@ -128,8 +128,8 @@ module _ (n : ℕ) (c : Config) (es : List Event) (u : unbroken es ≡ true) whe
       told-back =
           sym (tells-data o (sdoIn ours c es) (dueOf o) refl true count (sym (due o n h) ∙ e) (sym (is-answer count _ _ (data-given o h a e))) refl)
 
-      data-back : take count (sdoIn ours c es) ≡ dataAt o (momentsIn ours c es)
-      data-back = let g = data-given o h a e in rw (g .sdo-is) (take-at (dataAt o (momentsIn ours c es)) _ count (g .so-many))
+      data-back : take count (sdoIn ours c es) ≡ dataAt o (foundBy ours c es)
+      data-back = let g = data-given o h a e in rw (g .sdo-is) (take-at (dataAt o (foundBy ours c es)) _ count (g .so-many))
 
 pub reads-back : (o : Order) (words : List ℕ) (c : Config) (es : List Event) (w : ℕ) (after : List Event) → within o (length words) ≡ true → Awaits c
     → unbroken es ≡ true → hostWords (es ++ (Word w ∷ [])) ≡ frameOf o words → unbroken after ≡ true

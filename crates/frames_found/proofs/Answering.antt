@@ -27,7 +27,7 @@ use Rattle.bridge.specs.Runs.{Config, outOf, next}
 use Rattle.bridge.proofs.Reached.{Obeys}
 use Rattle.order.specs.Framed.{hostWords}
 use Rattle.frames_found.specs.Found.{unbroken}
-use Rattle.frames_found.specs.Answered.{sdoIn, rxWord, register, momentsIn, handedAt, registersAt}
+use Rattle.frames_found.specs.Answered.{sdoIn, rxWord, register, foundBy, handedAt, registersAt}
 use Rattle.frames_found.proofs.Turns.{phaseOf, planAt, plan-in, obeys-on, word-sdo, word-phase}
 use Rattle.frames_found.proofs.Coming.{Tale, Comes, comes, silent}
 use Rattle.frames_found.proofs.Collecting.{IsIdle, idle-blocked}
@@ -161,7 +161,7 @@ module _ (reply : ℕ → ℕ → Reply) (value : Config → ℕ → ℕ)
 
   read-run : (l : ℕ) (ws : List ℕ) (es : List Event) (c : Config) (sum a : ℕ) → Obeys c → phaseOf c ≡ Answering (reply a (suc l)) sum
       → unbroken es ≡ true → hostWords es ≡ ws → length ws ≡ suc l + 1
-      → Given (suc l) sum (valuesAt value a (take (suc l) (momentsIn ours c es))) (sdoIn ours c es)
+      → Given (suc l) sum (valuesAt value a (take (suc l) (foundBy ours c es))) (sdoIn ours c es)
   unfolding crcFrom valuesAt
   read-run l [] es c sum a o h u e n = absurd (omega arith)
   read-run zero (w ∷ ws) es c sum a o h u e n =
@@ -181,7 +181,7 @@ module _ (reply : ℕ → ℕ → Reply) (value : Config → ℕ → ℕ)
 
   pub reads : (count : ℕ) (es : List Event) (c : Config) (sum a : ℕ) → 1 ≤ count → Obeys c → phaseOf c ≡ Answering (reply a count) sum
       → unbroken es ≡ true → length (hostWords es) ≡ count + 1
-      → Given count sum (valuesAt value a (take count (momentsIn ours c es))) (sdoIn ours c es)
+      → Given count sum (valuesAt value a (take count (foundBy ours c es))) (sdoIn ours c es)
   reads zero es c sum a k o h u n = absurd (omega arith)
   reads (suc l) es c sum a k o h u n = read-run l (hostWords es) es c sum a o h u refl n
 
@@ -197,11 +197,11 @@ registers-are a [] = refl
 registers-are a (c ∷ cs) = rw (registers-are (a + 1) cs)
 
 module _ (count : ℕ) (es : List Event) (c : Config) (sum : ℕ) (k : 1 ≤ count) (o : Obeys c) (u : unbroken es ≡ true) (n : length (hostWords es) ≡ count + 1) where
-  pub data-run : phaseOf c ≡ Answering (Data count) sum → Given count sum (handedAt (take count (momentsIn ours c es))) (sdoIn ours c es)
+  pub data-run : phaseOf c ≡ Answering (Data count) sum → Given count sum (handedAt (take count (foundBy ours c es))) (sdoIn ours c es)
   data-run h =
-      rw (← (handed-are 0 (take count (momentsIn ours c es)))) (reads ofData ofRx (λ d w s a l. gives-data d w s a l) count es c sum 0 k o h u n)
+      rw (← (handed-are 0 (take count (foundBy ours c es)))) (reads ofData ofRx (λ d w s a l. gives-data d w s a l) count es c sum 0 k o h u n)
 
   pub register-run : (a : ℕ) → phaseOf c ≡ Answering (Registers a count) sum
-      → Given count sum (registersAt a (take count (momentsIn ours c es))) (sdoIn ours c es)
+      → Given count sum (registersAt a (take count (foundBy ours c es))) (sdoIn ours c es)
   register-run a h =
-      rw (← (registers-are a (take count (momentsIn ours c es)))) (reads ofRegisters register (λ d w s b l. gives-register d w s b l) count es c sum a k o h u n)
+      rw (← (registers-are a (take count (foundBy ours c es)))) (reads ofRegisters register (λ d w s b l. gives-register d w s b l) count es c sum a k o h u n)

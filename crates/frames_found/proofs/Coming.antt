@@ -13,8 +13,9 @@ use Rattle.events.specs.declared.Event.the-variants.{Power, Word, Release, Tick
 use Rattle.bridge.specs.Runs.{Config, outOf, next, endOf}
 use Rattle.bridge.proofs.Reached.{Obeys}
 use Rattle.order.specs.Framed.{wordOf, hostWords}
-use Rattle.frames_found.specs.Found.{Part, partOf, partAt, partsIn, noteAt, notesIn, unbroken}
-use Rattle.frames_found.specs.Answered.{sdoAt, sdoIn, momentAt, momentsIn}
+use Rattle.frames_found.specs.Found.{Part, partOf, partsIn, notesIn, unbroken}
+use Rattle.frames_found.specs.Moments.{momentAt, momentsIn}
+use Rattle.frames_found.specs.Answered.{sdoIn, foundBy}
 use Rattle.frames_found.proofs.Turns.{phaseOf, obeys-on, tick-keeps, clock-keeps}
 
 -- all that is told of the host words of a run, and its end
@@ -30,7 +31,7 @@ taleOf c es = record {
   parts = partsIn ours c es;
   notes = notesIn ours c es;
   sdo = sdoIn ours c es;
-  moments = momentsIn ours c es;
+  moments = foundBy ours c es;
   end = endOf ours c es;
 }
 
@@ -64,15 +65,15 @@ pub record Silent (P : Phase → Type 0) (c : Config) (es : List Event) : Type 0
 -- an event that is no word adds nothing
 module _ (c : Config) (es : List Event) where
   tick-tale : (sin : Bool) → taleOf c (Tick sin ∷ es) ≡ taleOf (next ours c (Tick sin)) es
-  unfolding partsIn partAt notesIn noteAt sdoIn sdoAt momentsIn momentAt endOf
+  unfolding partsIn notesIn sdoIn foundBy momentsIn momentAt endOf
   tick-tale sin = refl
 
   clock-tale : (reading : ℕ) → taleOf c (ClockReading reading ∷ es) ≡ taleOf (next ours c (ClockReading reading)) es
-  unfolding partsIn partAt notesIn noteAt sdoIn sdoAt momentsIn momentAt endOf
+  unfolding partsIn notesIn sdoIn foundBy momentsIn momentAt endOf
   clock-tale reading = refl
 
   word-tale : (w : ℕ) → taleOf c (Word w ∷ es) ≡ wordThen c w (taleOf (next ours c (Word w)) es)
-  unfolding partsIn partAt notesIn noteAt sdoIn sdoAt momentsIn momentAt endOf
+  unfolding partsIn notesIn sdoIn foundBy momentsIn momentAt endOf
   word-tale w = refl
 
 module _ (P : Phase → Type 0) (blocks : (ph : Phase) → P ph → P (blockedIn ph)) where
@@ -118,7 +119,7 @@ module _ (P : Phase → Type 0) (blocks : (ph : Phase) → P ph → P (blockedIn
   }
 
   pub silent : (es : List Event) (c : Config) → Obeys c → P (phaseOf c) → unbroken es ≡ true → hostWords es ≡ [] → Silent P c es
-  unfolding unbroken hostWords wordOf partsIn notesIn sdoIn endOf
+  unfolding unbroken hostWords wordOf partsIn notesIn sdoIn momentsIn endOf
   silent [] c o h u e = record { phase = h; parts-are = refl; notes-are = refl; sdo-are = refl }
   silent (Power good ∷ es) c o h u e = never false u refl
   silent (Word w ∷ es) c o h u e = absurd (nil≢cons (sym e))

@@ -1,7 +1,7 @@
 -- What the bridge answers to an order, and that it reads back as such (02 item 1, "read the answer back as STATUS or data"). Assumes nothing.
 use mathlib.Core.Path.{_≡_}
 use mathlib.Core.Bool.{false}
-use mathlib.Core.List.{List, [], _∷_, _++_}
+use mathlib.Core.List.{List, [], _∷_, map}
 use Prim.Native.Nat.{ℕ, _+_}
 use lib.Dec.{eqb}
 use lib.ListN.{length, take}
@@ -12,26 +12,22 @@ use Rattle.registers.specs.Registers.{statusOf, readOf}
 use Rattle.state.specs.Rings.{oldest}
 use Rattle.plan.specs.Plan.{noAnswer}
 use Rattle.events.specs.declared.Event.{Event}
-use Rattle.events.specs.declared.Event.the-variants.{Power, Word, Release, Tick, Clock as ClockReading}
-use Rattle.bridge.specs.Runs.{Config, outOf, next}
+use Rattle.bridge.specs.Runs.{Config}
 use Rattle.order.specs.Framed.{hostWords}
 use Rattle.frames.specs.Answers.{answerOf, toldOf}
 use Rattle.frames.specs.declared.Due.the-variants.{StatusDue, DataDue}
 use Rattle.frames.specs.declared.Order.{Order}
 use Rattle.frames.specs.declared.Order.the-variants.{FwdWrCrc, FwdWr, FwdWrEndCrc, FwdWrEnd, FwdRdEndCrc, FwdRdEnd, DataRdCrc, DataRd, RegWrCrc, RegWr, RegRdCrc, RegRd, SoftResetCrc}
 use Rattle.frames.specs.declared.Told.the-variants.{Status, Data}
+use Rattle.frames_found.specs.Moments.{Moment, momentsIn}
 
 -- the SDO words of a run, one for each host word: what the host reads
-unfoldable pub sdoAt : Event → ℕ → List ℕ
-sdoAt (Power good) w = []
-sdoAt (Word word) w = w ∷ []
-sdoAt Release w = []
-sdoAt (Tick sin) w = []
-sdoAt (ClockReading reading) w = []
-
 unfoldable pub sdoIn : Layout → Config → List Event → List ℕ
-sdoIn l c [] = []
-sdoIn l c (e ∷ es) = sdoAt e (outOf l c e .answer .sdo) ++ sdoIn l (next l c e) es
+sdoIn l c es = map (λ (m : Moment). m .answer .sdo) (momentsIn l c es)
+
+-- the bridge and its stores as each host word finds them
+unfoldable pub foundBy : Layout → Config → List Event → List Config
+foundBy l c es = map (λ (m : Moment). m .at) (momentsIn l c es)
 
 -- "Reads answer the words, each read as it is answered" (01 Frames): the next of the values that an order asks for, as it is at that moment. The oldest word
 -- of RX, or 0xFFFF where there is none (note 15); the register at an address.
@@ -40,18 +36,6 @@ rxWord c = pick (eqb (c .bridge .receiving .rx .count) 0) noAnswer (oldest (c .r
 
 abbrev pub register : Config → ℕ → ℕ
 register c address = readOf (c .bridge .control) (c .bridge .sending .tx .count) (c .bridge .receiving .rx .count) address
-
--- the bridge and its stores as each host word of a run finds them
-unfoldable pub momentAt : Config → Event → List Config
-momentAt c (Power good) = []
-momentAt c (Word w) = c ∷ []
-momentAt c Release = []
-momentAt c (Tick sin) = []
-momentAt c (ClockReading reading) = []
-
-unfoldable pub momentsIn : Layout → Config → List Event → List Config
-momentsIn l c [] = []
-momentsIn l c (e ∷ es) = momentAt c e ++ momentsIn l (next l c e) es
 
 -- words of RX, one at each moment; registers from an address on, one at each moment
 unfoldable pub handedAt : List Config → List ℕ
@@ -84,4 +68,4 @@ pub record ReadsBack (o : Order) (c : Config) (es : List Event) : Type 0 where
   pub status : answerOf o ≡ StatusDue → bit 0 (c .bridge .control .regs .spictrl) ≡ false → length (hostWords es) ≡ 2
       → toldOf o (sdoIn ours c es) ≡ Status (statusOf (c .bridge .control))
   pub data-told : (count : ℕ) → answerOf o ≡ DataDue count → length (hostWords es) ≡ count + 1 → toldOf o (sdoIn ours c es) ≡ Data count
-  pub data-is : (count : ℕ) → answerOf o ≡ DataDue count → length (hostWords es) ≡ count + 1 → take count (sdoIn ours c es) ≡ dataAt o (momentsIn ours c es)
+  pub data-is : (count : ℕ) → answerOf o ≡ DataDue count → length (hostWords es) ≡ count + 1 → take count (sdoIn ours c es) ≡ dataAt o (foundBy ours c es)

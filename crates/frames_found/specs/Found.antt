@@ -2,7 +2,7 @@
 -- each part then does). Assumes nothing.
 use mathlib.Core.Path.{_≡_}
 use mathlib.Core.Bool.{Bool, true, false, _&&_, _||_}
-use mathlib.Core.List.{List, [], _∷_, _++_}
+use mathlib.Core.List.{List, [], _∷_, map}
 use Prim.Native.Nat.{ℕ, suc}
 use lib.Dec.{ltb, eqb}
 use lib.ListN.{length}
@@ -18,9 +18,10 @@ use Rattle.state.specs.declared.Phase.{Phase}
 use Rattle.state.specs.declared.Phase.the-variants.{Idle, Collecting, Answering, Discarding}
 use Rattle.events.specs.declared.Event.{Event}
 use Rattle.events.specs.declared.Event.the-variants.{Power, Word, Release, Tick, Clock as ClockReading}
-use Rattle.bridge.specs.Runs.{Config, RightStores, outOf, next}
+use Rattle.bridge.specs.Runs.{Config, RightStores}
 use Rattle.frames.specs.Orders.{meant}
 use Rattle.frames.specs.declared.Order.{Order}
+use Rattle.frames_found.specs.Moments.{Moment, momentsIn}
 
 -- What a host word is to the frame that it meets: it opens one with this command, brings the data word of this number (from 0), or closes it with a CRC word,
 -- right or not. During an answer, and while words are discarded, it is none of these.
@@ -37,29 +38,12 @@ partOf l (Collecting command got sum mine released blocked) w =
 partOf l (Answering reply sum) w = apart
 partOf l Discarding w = apart
 
--- the parts of a run, one for each host word
-unfoldable pub partAt : Layout → Config → Event → List Part
-partAt l c (Power good) = []
-partAt l c (Word w) = partOf l (c .bridge .frame .phase) w ∷ []
-partAt l c Release = []
-partAt l c (Tick sin) = []
-partAt l c (ClockReading reading) = []
-
+-- the parts and the notes of a run, one for each host word
 unfoldable pub partsIn : Layout → Config → List Event → List Part
-partsIn l c [] = []
-partsIn l c (e ∷ es) = partAt l c e ++ partsIn l (next l c e) es
-
--- the notes of its host words
-unfoldable pub noteAt : Event → Note → List Note
-noteAt (Power good) n = []
-noteAt (Word w) n = n ∷ []
-noteAt Release n = []
-noteAt (Tick sin) n = []
-noteAt (ClockReading reading) n = []
+partsIn l c es = map (λ (m : Moment). partOf l (m .at .bridge .frame .phase) (m .word)) (momentsIn l c es)
 
 unfoldable pub notesIn : Layout → Config → List Event → List Note
-notesIn l c [] = []
-notesIn l c (e ∷ es) = noteAt e (outOf l c e .answer .note) ++ notesIn l (next l c e) es
+notesIn l c es = map (λ (m : Moment). m .answer .note) (momentsIn l c es)
 
 -- done, or refused for what the bridge holds: notes 5, 8, 9, 10, 11; never for the frame's form or CRC (01 Notes)
 abbrev pub isOfState : Note → Bool

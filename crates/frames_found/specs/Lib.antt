@@ -1,4 +1,5 @@
 pub mod Frames
+pub mod Moments
 pub mod Found
 pub mod Answered
 pub mod Silence
