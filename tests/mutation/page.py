@@ -14,7 +14,7 @@ NOT_RUN = "not run"
 HEAD = """\
 # Small wrong changes
 
-Each changes one place of the bridge's code and leaves the rest: another operand, constant, order or branch. The list is
+Each changes one place of the code of the bridge or of the host frames and leaves the rest: another operand, constant, order or branch. The list is
 `tests/mutation/changes.tsv`. Each has two verdicts, which know nothing of each other:
 
 - **The prover's.** `refused`: the code no longer meets its contract by the proof that stands. This does not tell wrong from merely unfit: a
@@ -23,7 +23,7 @@ Each changes one place of the bridge's code and leaves the rest: another operand
   even the proof's form fits the changed code. `taken`: the prover found nothing wrong.
 - **A run's.** The changed code is compiled without its proof and with the compiler's assumptions checked, and run until something tells it:
   `told by` the examples, the guide's texts (`examples/host`), the texts of `tests/edges`, the broken scripts of `tests/broken.py`, a random script of the gate (all of these against the
-  independent program of the same rules), or a program of the gate against its stored output. They are tried in this order, and the first that
+  independent program of the same rules), a program of the gate against its stored output, or the filter of host frames on orders at both sides of their limits (`tests/frames_text.py`). They are tried in this order, and the first that
   tells the change is named. `not told`: none of them does, and below stands why no run can.
 
 `python3 tests/mutation/run.py --write` asks the prover again (the crates must be proved), `python3 tests/mutation/outside.py --write` runs again

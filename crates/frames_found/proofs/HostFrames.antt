@@ -18,6 +18,7 @@ use Rattle.frames_found.proofs.Answered.{reads-back}
 use Rattle.frames_found.proofs.Decoding.{decodes}
 use Rattle.frames_found.proofs.Found.{found}
 use Rattle.frames_found.proofs.Inverse.{one-way, well-formed}
+use Rattle.frames_found.proofs.Ruled.{ruled}
 use Rattle.frames_found.proofs.Silence.{silent}
 
 -- an order by its numbers
@@ -78,6 +79,7 @@ host-frames = record {
   decodes = decodes;
   well-formed = well-formed;
   one-way = one-way;
+  ruled = ruled;
   found = found;
   reads-back = reads-back;
   answerable = answerable;

@@ -8,6 +8,7 @@ mod Found
 mod Ending
 mod Answering
 mod Answered
+mod Ruled
 mod Silence
 mod Examples
 pub mod HostFrames

@@ -1,5 +1,5 @@
--- What the bridge finds in a host's words, over its own rules (02 item 1, "the bridge's reader finds that same command"; `plannedIn` of crates/host says what
--- each part then does). Assumes nothing.
+-- What the bridge finds in a host's words, over its own rules (02 item 1, "the bridge's reader finds that same command").
+-- Assumes nothing.
 use mathlib.Core.Path.{_≡_}
 use mathlib.Core.Bool.{Bool, true, false, _&&_, _||_}
 use mathlib.Core.List.{List, [], _∷_, map}
@@ -13,9 +13,13 @@ use Rattle.rules.specs.Sound.{sound}
 use Rattle.state.specs.Frame.{dataWords}
 use Rattle.state.specs.Notes.{noteNumber}
 use Rattle.state.specs.Queue.{places}
+use Rattle.state.specs.declared.Bridge.{Bridge}
 use Rattle.state.specs.declared.Note.{Note}
 use Rattle.state.specs.declared.Phase.{Phase}
 use Rattle.state.specs.declared.Phase.the-variants.{Idle, Collecting, Answering, Discarding}
+use Rattle.state.specs.declared.Progress.{Progress}
+use Rattle.closing.specs.Closing.{crcDue}
+use Rattle.host.specs.Frames.{opened, dataWord, planned}
 use Rattle.events.specs.declared.Event.{Event}
 use Rattle.events.specs.declared.Event.the-variants.{Power, Word, Release, Tick, Clock as ClockReading}
 use Rattle.bridge.specs.Runs.{Config, RightStores}
@@ -37,6 +41,24 @@ partOf l (Collecting command got sum mine released blocked) w =
     pick (ltb got (dataWords command)) (brings command got w) (closes command (eqb w sum))
 partOf l (Answering reply sum) w = apart
 partOf l Discarding w = apart
+
+-- What each part does is the rule of crates/host for it: the command's opening, the data word's rule for this very word, the CRC word's rule. x is the oldest
+-- word of RX.
+pub record Brings (l : Layout) (b : Bridge) (w x : ℕ) (command : Command) (number word : ℕ) : Type 0 where
+  pub so-far : Progress
+  pub number-is : so-far .got ≡ number
+  pub rule-is : planned l b w x ≡ dataWord b command so-far word
+
+pub record Closes (l : Layout) (b : Bridge) (w x : ℕ) (command : Command) (right : Bool) : Type 0 where
+  pub mine : ℕ
+  pub blocked : Bool
+  pub rule-is : planned l b w x ≡ crcDue l b command mine blocked right
+
+abbrev pub Ruled : Layout → Bridge → ℕ → ℕ → Part → Type 0
+Ruled l b w x (opens command) = planned l b w x ≡ opened b command (l .crcStep (l .crcStart) w)
+Ruled l b w x (brings command number word) = Brings l b w x command number word
+Ruled l b w x (closes command right) = Closes l b w x command right
+Ruled l b w x apart = Unit {0}
 
 -- the parts and the notes of a run, one for each host word
 unfoldable pub partsIn : Layout → Config → List Event → List Part

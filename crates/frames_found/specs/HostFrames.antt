@@ -7,7 +7,8 @@ use mathlib.Core.List.{List, [], _∷_, _++_}
 use Prim.Native.Nat.{ℕ, _+_, _≤_}
 use lib.ListN.{length}
 use Rattle.command.specs.Layout.{decodeOurs}
-use Rattle.command.specs.Layouts.{ours}
+use Rattle.command.specs.Layouts.{Layout, ours}
+use Rattle.state.specs.declared.Bridge.{Bridge}
 use Rattle.events.specs.declared.Event.{Event}
 use Rattle.events.specs.declared.Event.the-variants.{Word}
 use Rattle.bridge.specs.Runs.{Config, endOf}
@@ -18,7 +19,7 @@ use Rattle.frames.specs.declared.Named.the-variants.{Known}
 use Rattle.frames.specs.declared.Order.{Order}
 use Rattle.frames.specs.declared.Written.the-variants.{Frame}
 use Rattle.frames_found.specs.Answered.{ReadsBack}
-use Rattle.frames_found.specs.Found.{Awaits, unbroken, Found}
+use Rattle.frames_found.specs.Found.{partOf, Ruled, Awaits, unbroken, Found}
 use Rattle.frames_found.specs.Frames.{WellFormed, OneWay}
 use Rattle.frames_found.specs.Silence.{Silent}
 
@@ -44,6 +45,8 @@ pub record HostFrames : Type 0 where
   pub well-formed : (o : Order) (words : List ℕ) → within o (length words) ≡ true → WellFormed (frameOf o words)
   -- "every well-formed frame is one the writer gives", and for exactly one order and words.
   pub one-way : (frame : List ℕ) → WellFormed frame → OneWay frame
+  -- What a host word is to the bridge, by its own rules.
+  pub ruled : (l : Layout) (b : Bridge) (w x : ℕ) → Ruled l b w x (partOf l (b .frame .phase) w)
   -- The bridge itself finds it, from any record that obeys the rules with its frame idle and whatever ticks and clock readings come between the words.
   pub found : (o : Order) (words : List ℕ) (c : Config) (es : List Event) → within o (length words) ≡ true → Awaits c → unbroken es ≡ true
       → hostWords es ≡ frameOf o words → Found o words c es
