@@ -1,16 +1,26 @@
 /* Host frames for the Icelichen bridge (document 02, item 1): an order becomes the words to send, and the words that came back become STATUS
- * or data. The functions are proved (crates/icelichen_frames); link libicelichen_frames.a. docs/HOST-GUIDE.md says how to use them.
+ * or data. The functions are proved (crates/icelichen_frames); link libicelichen_frames.a behind your own objects. docs/HOST-GUIDE.md 2 has
+ * the bits of each command and how to use this; examples/c/call_up.c is a program.
  *
- * An order is a command and the fields of its row:
- *   ends     extra ENDs, 0 to 127       FWD_WR_END_CRC, FWD_WR_END, FWD_RD_END_CRC, FWD_RD_END
- *   address  first register             REG_WR_CRC, REG_WR, REG_RD_CRC, REG_RD
- *   count    words to read              DATA_RD_CRC, DATA_RD (1 to 256), REG_RD_CRC, REG_RD (address + count at most 11)
- * A field that the command does not have is 0; another value there is refused, since it would be lost.
+ * An order is a command, its fields, and its data words:
+ *   command                          ends      address   count          data words
+ *   FWD_WR_CRC                       -         -         -              1 to 512
+ *   FWD_WR                           -         -         -              1 to 4096
+ *   FWD_WR_END_CRC, FWD_WR_END       0 to 127  -         -              0 to 31
+ *   FWD_RD_END_CRC, FWD_RD_END       0 to 127  -         -              1 to 32
+ *   DATA_RD_CRC, DATA_RD             -         -         1 to 256       none
+ *   REG_WR_CRC, REG_WR               -         0 to 10   -              1 or more, address + words at most 11
+ *   REG_RD_CRC, REG_RD               -         0 to 10   1 or more, address + count at most 11     none
+ *   SOFTRESET_CRC                    -         -         -              none
+ * A field that the command does not have (-) is 0; another number there is refused, since it would be lost. So is every number over 65535.
+ * (A number of more than 32 bits C itself cuts: -Wconversion tells.)
  *
- * A result below 0 is a refusal, minus its number. Nothing is written then.
+ * A result below 0 is a refusal, minus its number. Nothing is written then. Keep results in an int32_t.
  *
- * Pointers: `words` and `answer` point to that many words to read, `buffer` to that many to write, which lie apart from `words`. A pointer
- * is not NULL, also where its length is 0.
+ * Pointers: `words` and `answer` point to that many words to read, `buffer` to that many to write. The buffer lies apart from the words: over
+ * each other they give a frame of other words, with a right CRC. A pointer is not NULL, also where its length is 0: give any array there.
+ *
+ * The functions keep nothing, allocate nothing, call nothing and end for every input: any thread and any interrupt may call them.
  */
 #ifndef ICELICHEN_FRAMES_H
 #define ICELICHEN_FRAMES_H
@@ -39,25 +49,29 @@ enum icelichen_command {
 };
 
 enum icelichen_refusal {
-    ICELICHEN_OUTSIDE_LIMITS = -20, /* an order outside 01's limits, or an answer of wrong length or CRC */
+    ICELICHEN_OUTSIDE_LIMITS = -20, /* an order outside the limits above, or an answer of wrong length or CRC */
     ICELICHEN_BUFFER_SHORT = -21    /* fewer cells than the frame has words */
 };
 
-/* The words of a frame beside its data words: command word and CRC word. */
-#define ICELICHEN_BESIDE 2
+#define ICELICHEN_BESIDE 2          /* words of a frame beside its data words: command word and CRC word */
+#define ICELICHEN_MOST_FRAME 4098   /* words of the longest frame */
+#define ICELICHEN_STATUS_ANSWER 2   /* words of an answer with STATUS; an answer with data has count + 1 */
+#define ICELICHEN_MOST_ANSWER 257   /* words of the longest answer */
+#define ICELICHEN_FAULTS 0xFBFF     /* STATUS & this is 0 where all is well: every bit but DRDY (docs/HOST-GUIDE.md 3) */
 
 /* Writes the order's frame with these data words into the buffer: command word, data words, CRC word. Answers how many words it wrote, which
  * is words_length + 2, or a refusal: -20, whatever the buffer, then -21. The cells behind the frame stay as they were. */
-int32_t icelichen_frame(uint16_t command, uint16_t ends, uint16_t address, uint16_t count,
+int32_t icelichen_frame(uint32_t command, uint32_t ends, uint32_t address, uint32_t count,
                         const uint16_t *words, size_t words_length, uint16_t *buffer, size_t buffer_length);
 
-/* The STATUS value, 0 to 65535, of the answer to an order that answers STATUS: two words. -20 where it is no such answer, or the order is a read. */
-int32_t icelichen_status(uint16_t command, uint16_t ends, uint16_t address, uint16_t count,
+/* The STATUS value, 0 to 65535, of the answer to an order that answers STATUS: two words. -20 where it is no such answer, where no number of
+ * data words brings the order within its limits, or where the order is a read. That it is an answer does not say that all is well. */
+int32_t icelichen_status(uint32_t command, uint32_t ends, uint32_t address, uint32_t count,
                          const uint16_t *answer, size_t answer_length);
 
-/* The number of data words at the front of the answer to a read: its count; the answer has one word more. -20 where it is no such answer, or the
- * order is no read. */
-int32_t icelichen_data(uint16_t command, uint16_t ends, uint16_t address, uint16_t count,
+/* The number of data words at the front of the answer to a read: its count; the answer has one word more. -20 where it is no such answer, where
+ * the order is outside its limits, or where it is no read. */
+int32_t icelichen_data(uint32_t command, uint32_t ends, uint32_t address, uint32_t count,
                        const uint16_t *answer, size_t answer_length);
 
 #ifdef __cplusplus

@@ -28,11 +28,12 @@ CRATE = TESTS.parent / "crates/frames_main"
 TOOL = TESTS.parent / "tools/frame"
 MOST_TEXT, MOST_WORDS, MOST_SHOWN, REGISTERS = 1 << 20, 4096, 40, 11
 SEED, TEXTS = 2, 300  # random texts
+LINES = 20_000  # of frames, more than a pipe holds
 
 # 01 Frames: number, fields, limits as they are told
 ROWS = {
-    "FWD_WR_CRC": (2, [], "1 to 512"),
-    "FWD_WR": (3, [], "1 to 4096"),
+    "FWD_WR_CRC": (2, [], "1 to 512 words"),
+    "FWD_WR": (3, [], "1 to 4096 words"),
     "FWD_WR_END_CRC": (4, ["ends"], "ends 0 to 127, 0 to 31 words"),
     "FWD_WR_END": (5, ["ends"], "ends 0 to 127, 0 to 31 words"),
     "FWD_RD_END_CRC": (6, ["ends"], "ends 0 to 127, 1 to 32 words"),
@@ -104,25 +105,25 @@ def word_of(item, words):
     if not re.fullmatch(rb"[0-9A-Fa-f]{4}", item):
         raise Wrong(found("expected four hex digits", item))
     if len(words) == MOST_WORDS:
-        raise Wrong("expected at most 4096 words, found one more, `%s`" % cut(item))
+        raise Wrong("expected at most 4096 words, which is the most of any order, found one more, `%s`" % cut(item))
     words.append(int(item, 16))
 
 
 def frame(row, field, words):
     low = low_bits(row[0], field, len(words))
     if low is None:
-        count = "1 word is" if len(words) == 1 else "%d words are" % len(words)
-        raise Wrong("%s outside its limits (%s): refusal 20" % (count, row[2]))
+        count = "1 word" if len(words) == 1 else "%d words" % len(words)
+        raise Wrong("expected %s, found %s with these fields: refusal 20" % (row[2], count))
     whole = [row[0] << 12 | low, *words]
     return hexed([*whole, crc(whole)])
 
 
 def answer(row, field, words, last):
     if all(low_bits(row[0], field, n) is None for n in range(33)):
-        raise Wrong("an order outside its limits (%s): refusal 20" % row[2])
+        raise Wrong("expected %s, found an order outside these limits: refusal 20" % row[2])
     due = field["count"] + 1 if "count" in row[1] else 2
     if len(words) != due:
-        raise Wrong("expected an answer of %d words, found %d: refusal 20" % (due, len(words)))
+        raise Wrong("expected an answer of %d words, and no data words of the order; found %d: refusal 20" % (due, len(words)))
     if crc(words[:-1]) != words[-1]:
         raise Wrong(found("expected the CRC of the words before it", last) + ": refusal 20")
     return ("data " if "count" in row[1] else "STATUS ") + hexed(words[:-1])
@@ -190,7 +191,7 @@ TEXT = [  # text, what standard error has of it; "" where all is right
     (b"#" + b"x" * (MOST_TEXT - 1), ""),
     (b"\n" * MOST_TEXT, ""),
     (b"\n" * (MOST_TEXT + 1), "expected at most 1 MiB (1048576 bytes) of text, found more\n"),
-    (b"FWD_WR " + ALL + b" 1234", "line 1: FWD_WR: expected at most 4096 words, found one more, `1234`\n"),
+    (b"FWD_WR " + ALL + b" 1234", "line 1: FWD_WR: expected at most 4096 words, which is the most of any order, found one more, `1234`\n"),
     (b"fwd_wr AAF0", "line 1: expected a command's name in capitals, such as FWD_WR_CRC, or answer and a name, found `fwd_wr`\n"),
     (b"FWD_W AAF0", "found `FWD_W`\n"),
     (b"FWD_WR_ AAF0", "found `FWD_WR_`\n"),
@@ -212,24 +213,24 @@ TEXT = [  # text, what standard error has of it; "" where all is right
     (b"DATA_RD count=-1", "found `count=-1`\n"),
     (b"DATA_RD count=65536", "found `count=65536`\n"),
     (b"DATA_RD count=18446744073709551617", "found `count=18446744073709551617`\n"),
-    (b"DATA_RD count=65535", "line 1: DATA_RD count=65535: 0 words are outside its limits (count 1 to 256, no words): refusal 20\n"),
+    (b"DATA_RD count=65535", "line 1: DATA_RD count=65535: expected count 1 to 256, no words, found 0 words with these fields: refusal 20\n"),
     (b"FWD_WR_END ends=1 AAF0 ends=1", "line 1: FWD_WR_END ends=1: expected fields before the words, found behind a word `ends=1`\n"),
     (b"FWD_WR AAF", "line 1: FWD_WR: expected four hex digits, found `AAF`\n"),
     (b"FWD_WR AAF00", "found `AAF00`\n"),
     (b"FWD_WR AAFG", "found `AAFG`\n"),
     (b"FWD_WR AAF0\rFE0B", "found `AAF0?FE0B`\n"),
     (b"FWD_WR AAF0 \x01\x7f\x80\xff", "found `????`\n"),
-    (b"FWD_WR_CRC " + some(513).encode(), "line 1: FWD_WR_CRC: 513 words are outside its limits (1 to 512): refusal 20\n"),
-    (b"FWD_WR", "line 1: FWD_WR: 0 words are outside its limits (1 to 4096): refusal 20\n"),
-    (b"SOFTRESET_CRC 0000", "line 1: SOFTRESET_CRC: 1 word is outside its limits (no words): refusal 20\n"),
-    (b"answer FWD_WR 0403", "line 1: FWD_WR: expected an answer of 2 words, found 1: refusal 20\n"),
-    (b"answer FWD_WR", "line 1: FWD_WR: expected an answer of 2 words, found 0: refusal 20\n"),
-    (b"answer DATA_RD count=2 AAF0 FE0B", "line 1: DATA_RD count=2: expected an answer of 3 words, found 2: refusal 20\n"),
+    (b"FWD_WR_CRC " + some(513).encode(), "line 1: FWD_WR_CRC: expected 1 to 512 words, found 513 words with these fields: refusal 20\n"),
+    (b"FWD_WR", "line 1: FWD_WR: expected 1 to 4096 words, found 0 words with these fields: refusal 20\n"),
+    (b"SOFTRESET_CRC 0000", "line 1: SOFTRESET_CRC: expected no words, found 1 word with these fields: refusal 20\n"),
+    (b"answer FWD_WR 0403", "line 1: FWD_WR: expected an answer of 2 words, and no data words of the order; found 1: refusal 20\n"),
+    (b"answer FWD_WR", "line 1: FWD_WR: expected an answer of 2 words, and no data words of the order; found 0: refusal 20\n"),
+    (b"answer DATA_RD count=2 AAF0 FE0B", "line 1: DATA_RD count=2: expected an answer of 3 words, and no data words of the order; found 2: refusal 20\n"),
     (b"answer FWD_WR 0403 0000", "line 1: FWD_WR: expected the CRC of the words before it, found `0000`: refusal 20\n"),
     (b"answer FWD_WR_END ends=128 0403 %04X" % crc([0x0403]),
-     "line 1: FWD_WR_END ends=128: an order outside its limits (ends 0 to 127, 0 to 31 words): refusal 20\n"),
-    (b"answer REG_WR address=11 0403 %04X" % crc([0x0403]), "line 1: REG_WR address=11: an order outside its limits"),
-    (b"answer REG_RD address=11 count=0 " + ALL, "line 1: REG_RD address=11 count=0: an order outside its limits"),
+     "line 1: FWD_WR_END ends=128: expected ends 0 to 127, 0 to 31 words, found an order outside these limits: refusal 20\n"),
+    (b"answer REG_WR address=11 0403 %04X" % crc([0x0403]), "line 1: REG_WR address=11: expected address 0 to 10,"),
+    (b"answer REG_RD address=11 count=0 " + ALL, "line 1: REG_RD address=11 count=0: expected address 0 to 10,"),
     (b"SOFTRESET_CRC\nFWD\n\nFWD_WR xyz\r\nSOFTRESET_CRC\n# x\nDATA_RD", "line 2: "),
 ]
 
@@ -316,11 +317,13 @@ CALLS = [  # arguments, standard input, status, standard output, standard error
     (["--", "FWD_WR"], b"", 0, "E000 %04X\n" % crc([0xE000]), ""),
     ([], b"SOFTRESET_CRC", 0, "E000 %04X\n" % crc([0xE000]), ""),
     (["-"], b"SOFTRESET_CRC", 0, "E000 %04X\n" % crc([0xE000]), ""),
-    ([], b"", 0, "", ""),
-    (["FWD_WR"], b"", 1, "", "tools/frame: FWD_WR: 0 words are outside its limits (1 to 4096): refusal 20\n"),
+    ([], b"", 0, "", "standard input: no orders\n"),
+    (["-"], b"\xef\xbb\xbf# a mark\r\nSOFTRESET_CRC\r\n", 0, "E000 %04X\n" % crc([0xE000]), ""),
+    (["-"], "SOFTRESET_CRC\n".encode("utf-16"), 1, "", "standard input: the text is UTF-16: save it as UTF-8\n"),
+    (["FWD_WR"], b"", 1, "", "tools/frame: FWD_WR: expected 1 to 4096 words, found 0 words with these fields: refusal 20\n"),
     (["bad.txt"], b"", 1, "",
      "bad.txt:2: FWD_WR: expected four hex digits, found `line`\nbad.txt:3: DATA_RD: expected the field count=, found no such field\n"),
-    (["-"], b"\nFWD_WR xyz", 1, "", "line 2: FWD_WR: expected four hex digits, found `xyz`\n"),
+    (["-"], b"\nFWD_WR xyz", 1, "", "standard input:2: FWD_WR: expected four hex digits, found `xyz`\n"),
     (["long.txt"], b"", 1, "", "long.txt: expected at most 1 MiB (1048576 bytes) of text, found more\n"),
     (["none.txt"], b"", 1, "", "none.txt: No such file or directory, and it is no command's name\n"),
     (["folder"], b"", 1, "", "folder: Is a directory\n"),
@@ -332,6 +335,18 @@ CALLS = [  # arguments, standard input, status, standard output, standard error
 def called(work, words, given, **environment):
     done = subprocess.run([TOOL, *words], input=given, capture_output=True, cwd=work, env={**os.environ, "BENCH_BIN": str(work), **environment})
     return done.returncode, done.stdout.decode(), done.stderr.decode()
+
+
+def lines_through_a_short_pipe(work):
+    """How many lines come out unbuffered where one write takes 64 KiB at most, as on a disk that is nearly full."""
+    (work / "many.txt").write_bytes(b"SOFTRESET_CRC\n" * LINES)
+    reader, writer = os.pipe()
+    os.set_blocking(writer, False)
+    environment = {**os.environ, "BENCH_BIN": str(work), "PYTHONUNBUFFERED": "1"}
+    with subprocess.Popen([TOOL, "many.txt"], stdout=writer, cwd=work, env=environment):
+        os.close(writer)
+        with open(reader, "rb") as out:
+            return out.read().count(b"\n")
 
 
 def tool_differences(work):
@@ -347,8 +362,10 @@ def tool_differences(work):
     if status or said or not printed.startswith("Makes the words of frames"):
         yield "tools/frame --help: status %d, %r" % (status, said)
     if called(work, ["SOFTRESET_CRC"], b"", BENCH_BIN=str(work / "folder"))[0::2] != (
-            1, "tools/frame: %s is not built: run `tools/build frames_main`\n" % (work / "folder/frames_main")):
+            1, "tools/frame: %s: there is no program that can be run: BENCH_BIN names that folder\n" % (work / "folder/frames_main")):
         yield "tools/frame: not told that the program is not built"
+    if lines_through_a_short_pipe(work) != LINES:
+        yield "tools/frame: of %d lines %d came out where a write takes less than all" % (LINES, lines_through_a_short_pipe(work))
     with open("/dev/full", "wb") as full:
         done = subprocess.run([TOOL, "SOFTRESET_CRC"], stdout=full, stderr=subprocess.PIPE, env={**os.environ, "BENCH_BIN": str(work)})
         direct = subprocess.run([*outside.runner(), work / "frames_main"], input=b"\nSOFTRESET_CRC\n\n", stdout=full, stderr=subprocess.PIPE)
@@ -414,7 +431,7 @@ def main():
         print(*bad[:20], sep="\n")
         sys.exit("frames_text: %d not as they should be" % len(bad))
     print("frames_text: %d lines agree, %d texts, %d calls" % (
-        len((CRATE / "stdout").read_text().splitlines()), len(TEXT) + len(list(at_limits())) + TEXTS + 1, len(CALLS) + 5))
+        len((CRATE / "stdout").read_text().splitlines()), len(TEXT) + len(list(at_limits())) + TEXTS + 1, len(CALLS) + 6))
 
 
 if __name__ == "__main__":

@@ -97,13 +97,13 @@ LINES_OF_FRAMES = [
     (b"frame REG_RD_CRC address=7 count=4", host("C307 2EEF"), ""),
     (b"frame REG_RD_CRC count=4 address=7", host("C307 2EEF"), ""),
     (b"frame SOFTRESET_CRC", host("E000 0DBD"), ""),
-    (b"frame", b"", r"^-:1: expected a command \(FWD_WR_CRC, .*, SOFTRESET_CRC\), or words of four hex digits, found nothing$"),
-    (b"frame FWD_WR_CRD AAF0", b"", r"^-:1: expected a command \(.*\), or words of four hex digits, found `FWD_WR_CRD`$"),
+    (b"frame", b"", r"^standard input:1: expected a command \(FWD_WR_CRC, .*, SOFTRESET_CRC\), or words of four hex digits, found nothing$"),
+    (b"frame FWD_WR_CRD AAF0", b"", r"^standard input:1: expected a command \(.*\), or words of four hex digits, found `FWD_WR_CRD`$"),
     (b"frame fwd_wr_crc AAF0", b"", "found `fwd_wr_crc`$"),
     (b"badframe 200 AAF0", b"", "or words of four hex digits, found `200`$"),
     (b"crc", b"", "or words of four hex digits, found nothing$"),
-    (b"power good\nframe FWD_WR_END_CRC AAF0", b"", "^-:2: expected ends=0 to 127 for FWD_WR_END_CRC, found none$"),
-    (b"frame REG_RD_CRC address=7", b"", "^-:1: expected count=1 to 4 for REG_RD_CRC at address 7, found none$"),
+    (b"power good\nframe FWD_WR_END_CRC AAF0", b"", "^standard input:2: expected ends=0 to 127 for FWD_WR_END_CRC, found none$"),
+    (b"frame REG_RD_CRC address=7", b"", "^standard input:1: expected count=1 to 4 for REG_RD_CRC at address 7, found none$"),
     (b"frame REG_RD_CRC count=1", b"", "expected address=0 to 10 for REG_RD_CRC, found none$"),
     (b"frame FWD_WR_END_CRC ends=1 ends=2 AAF0", b"", "expected ends= once, found `ends=1 ends=2`$"),
     (b"frame FWD_WR_CRC ends=2 AAF0", b"", "expected no field for FWD_WR_CRC, found `ends=2`$"),
@@ -127,6 +127,11 @@ LINES_OF_FRAMES = [
     (b"frame FWD_WR_CRC AAF0 0xAA", b"", "expected four hex digits, found `0xAA`$"),
     (b"frame 2000 AAG0", b"", "expected four hex digits, found `AAG0`$"),
     (b"frame FWD_WR_END_CRC AAF0 ends=2", b"", "expected fields before the words, found `ends=2`$"),
+    (b"frame 2000 AAF0 AE24", b"", "expected words without their CRC word, which is added .*, found `AE24`$"),
+    (b"word 2000 AAF0 AE24", host("2000 AAF0 AE24"), ""),
+    (b"word", b"", "expected words of four hex digits, found nothing$"),
+    (b"frame FWD_WR_CRC\x0bAAF0", b"", r"found `FWD_WR_CRC\\x0bAAF0`$"),
+    (b"frame FWD_WR_CRC \x1b[1m", b"", r"found `\\x1b\[1m`$"),
 ]
 CALLS += [(SCRIPT, ["-"], line + b"\n", 1 if said else 0, made, said) for line, made, said in LINES_OF_FRAMES]
 ERR, INIT = 0x0001, 0x0010  # a flag comes with ERR, OTP with INIT
@@ -212,7 +217,7 @@ def wrong(work):
     if (work / "given").read_bytes() != given:
         yield "--explain: the program was given another script"
     os.environ["BENCH_BIN"] = str(work / "folder")
-    for what in otherwise(called(BENCH, [LIGHT], b"", work), 1, b"", "bench is not built: run `tools/build`"):
+    for what in otherwise(called(BENCH, [LIGHT], b"", work), 1, b"", "bench: there is no program that can be run: BENCH_BIN names that folder$"):
         yield "not built: " + what
 
 

@@ -3,6 +3,13 @@ import os
 import sys
 
 
+def put(data):
+    """Writes bytes to standard output, all of them: unbuffered, as PYTHONUNBUFFERED makes it, one write may take less."""
+    rest = memoryview(data)
+    while rest:
+        rest = rest[sys.stdout.buffer.write(rest) or 0:]
+
+
 def ended(tool, main):
     """Runs a tool's `main`. A reader of the output that has gone, a full disk, a closed output and an interrupt end it in their own way."""
     if sys.stdout is None:
@@ -14,6 +21,9 @@ def ended(tool, main):
         os._exit(141)  # as `head` makes any program end
     except KeyboardInterrupt:
         os._exit(130)
+    except MemoryError:
+        sys.stderr.write("%s: the input is larger than the memory\n" % tool)
+        os._exit(1)
     except OSError as error:
         sys.stderr.write("%s: the output cannot be written: %s\n" % (tool, error.strerror))
         sys.stderr.flush()

@@ -13,9 +13,11 @@ class Failed(Exception):
 
 def command(name, build="tools/build"):
     """How to start a program here."""
-    program = pathlib.Path(os.environ.get("BENCH_BIN", BUILT)) / name
+    folder = os.environ.get("BENCH_BIN")
+    program = pathlib.Path(folder or BUILT) / name
     if not os.access(program, os.X_OK):
-        raise Failed("%s is not built: run `%s`" % (program, build))
+        raise Failed("%s: there is no program that can be run: BENCH_BIN names that folder" % program if folder else
+                     "%s is not built: run `%s`" % (program, build))
     if platform.machine() in ("x86_64", "AMD64"):
         return [str(program)]
     rt = shutil.which("rt")

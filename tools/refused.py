@@ -6,8 +6,8 @@ class Refused(Exception):
 
 
 def seen(words):
-    """Words as they can be seen: what is not plain ASCII by its number."""
-    return "`%s`" % " ".join(words).encode("ascii", "backslashreplace").decode() if words else "nothing"
+    """Words as they can be seen: what is not a plain character by its number."""
+    return "`%s`" % " ".join(words).encode("unicode_escape").decode().replace("\\\\", "\\") if words else "nothing"
 
 
 def refuse(expected, found):

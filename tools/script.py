@@ -6,7 +6,7 @@
 One event a line. `#` begins a comment, blank lines are skipped. UTF-8, with or without a byte-order mark.
 
     power good          power-up; `power bad` with bad OTP
-    word 2000           host word, four hex digits
+    word 2000           host word, four hex digits; several stand for as many, as `word 2000 AAF0 AE24` does, which tools/frame prints
     release             chip select released
     tick 1              line tick with SIN 1; `tick 0` with SIN 0
     clock 5             clock reading, decimal, 0 to 65535
@@ -35,7 +35,7 @@ import sys
 
 sys.dont_write_bytecode = True
 sys.path.insert(0, str(pathlib.Path(__file__).resolve().parent))
-from ends import ended  # noqa: E402
+from ends import ended, put  # noqa: E402
 from frames import COMMAND, ROWS, closed, hex_words, is_hex, listed, order  # noqa: E402
 from refused import Refused, refuse  # noqa: E402
 
@@ -68,7 +68,10 @@ def frame_words(arguments):
         return order(arguments)
     if not arguments or not is_hex(arguments[0]):
         refuse("%s, or words of four hex digits" % COMMAND, arguments[:1])
-    return closed(hex_words(arguments))
+    words = hex_words(arguments)
+    if len(words) > 1 and words == closed(words[:-1]):
+        refuse("words without their CRC word, which is added (`word` sends words as they are)", arguments[-1:])
+    return closed(words)
 
 
 def power(arguments):
@@ -76,8 +79,8 @@ def power(arguments):
 
 
 def word(arguments):
-    if len(arguments) != 1:
-        refuse("one word of four hex digits", arguments)
+    if not arguments:
+        refuse("words of four hex digits", arguments)
     return records(WORD, hex_words(arguments))
 
 
@@ -128,12 +131,17 @@ FORMS = {"power": power, "word": word, "release": release, "tick": tick, "clock"
 
 def events(line):
     """The records of one line."""
-    parts = line.split("#")[0].split()
+    parts = re.findall(r"[^ \t]+", line.split("#")[0])
     if not parts:
         return b""
     if parts[0] not in FORMS:
         refuse("an event (%s)" % ", ".join(FORMS), parts[:1])
     return FORMS[parts[0]](parts[1:])
+
+
+def source(name):
+    """A file as it is called where something is wrong in it."""
+    return "standard input" if name == "-" else name
 
 
 def script(name, text):
@@ -142,7 +150,7 @@ def script(name, text):
         try:
             made.append(events(line))
         except Refused as refused:
-            raise Refused("%s:%d: %s" % (name, number, refused)) from None
+            raise Refused("%s:%d: %s" % (source(name), number, refused)) from None
     return b"".join(made)
 
 
@@ -189,7 +197,7 @@ def main():
         sys.exit(2)
     name = sys.argv[1]
     try:
-        sys.stdout.buffer.write(script(name, decoded(name, read(name))))
+        put(script(name, decoded(source(name), read(name))))
     except Refused as refused:
         sys.exit(str(refused))
 

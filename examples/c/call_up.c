@@ -39,14 +39,15 @@ static void say_status(const uint16_t *answer, size_t length)
     if (status < 0)
         printf("answer %04X %04X: refusal %d, what became of the frame is not known (docs/HOST-GUIDE.md 9)\n", answer[0], answer[1], (int)-status);
     else
-        printf("answer %04X %04X: STATUS %04X\n", answer[0], answer[1], (unsigned)status);
+        printf("answer %04X %04X: STATUS %04X, %s\n", answer[0], answer[1], (unsigned)status,
+               status & ICELICHEN_FAULTS ? "look at its flags" : "all is well");
 }
 
 int main(void)
 {
     const uint16_t panel[] = {0xAA05, 0x1234, 0x5678};
     const uint16_t vsync[] = {VSYNC};
-    const uint16_t none[] = {0};
+    const uint16_t none[] = {0};                        /* for no words: a pointer is never NULL */
     uint16_t frame[ROOM];
 
     if (!forward("panel 5", panel, 3, frame) || !forward("VSYNC", vsync, 1, frame))
@@ -54,6 +55,7 @@ int main(void)
     forward("no words", none, 0, frame);                /* a forward carries one word at least */
 
     say_status((const uint16_t[]){0x0400, 0xD1CB}, 2);  /* as the bridge answers: flags down, RX empty */
+    say_status((const uint16_t[]){0x0441, 0x892E}, 2);  /* the CRC word of some frame was wrong */
     say_status((const uint16_t[]){0x0420, 0xD1CB}, 2);  /* one bit turned on the way */
 
     const uint16_t registers[] = {0x01FF, 0x00FF, 0x23E7};

@@ -29,7 +29,7 @@ static uint16_t crc_of(const uint16_t *words, size_t length)
 }
 
 /* 02 item 1: these answer data, all the others STATUS. */
-static bool is_read(uint16_t command)
+static bool is_read(uint32_t command)
 {
     return command == ICELICHEN_DATA_RD_CRC || command == ICELICHEN_DATA_RD
         || command == ICELICHEN_REG_RD_CRC || command == ICELICHEN_REG_RD;
@@ -37,7 +37,7 @@ static bool is_read(uint16_t command)
 
 /* 01 "Frames", the table: are the fields such that some number of data words makes it an order? The header: a field that the
  * command does not have is 0. REG_WR needs at least one word, so its address is at most 10. */
-static bool fields_fit(uint16_t command, uint16_t ends, uint16_t address, uint16_t count)
+static bool fields_fit(uint32_t command, uint32_t ends, uint32_t address, uint32_t count)
 {
     switch (command) {
     case ICELICHEN_FWD_WR_CRC: case ICELICHEN_FWD_WR: case ICELICHEN_SOFTRESET_CRC:
@@ -49,14 +49,14 @@ static bool fields_fit(uint16_t command, uint16_t ends, uint16_t address, uint16
     case ICELICHEN_REG_WR_CRC: case ICELICHEN_REG_WR:
         return ends == 0 && address < REGISTERS && count == 0;
     case ICELICHEN_REG_RD_CRC: case ICELICHEN_REG_RD:
-        return ends == 0 && count >= 1 && (uint32_t)address + count <= REGISTERS;
+        return ends == 0 && count >= 1 && (uint64_t)address + count <= REGISTERS;
     default:
         return false;
     }
 }
 
 /* 01 "Frames", the table: the numbers of data words of a command whose fields fit. */
-static bool words_fit(uint16_t command, uint16_t address, size_t words)
+static bool words_fit(uint32_t command, uint32_t address, size_t words)
 {
     switch (command) {
     case ICELICHEN_FWD_WR_CRC:
@@ -75,9 +75,9 @@ static bool words_fit(uint16_t command, uint16_t address, size_t words)
 }
 
 /* 01 "Frames", the table: command number in bits 15..12, the fields below. */
-static uint16_t command_word(uint16_t command, uint16_t ends, uint16_t address, uint16_t count, size_t words)
+static uint32_t command_word(uint32_t command, uint32_t ends, uint32_t address, uint32_t count, size_t words)
 {
-    unsigned number = command, low = 0, data = (unsigned)words;
+    unsigned number = (unsigned)command, low = 0, data = (unsigned)words;
     switch (command) {
     case ICELICHEN_FWD_WR_CRC: case ICELICHEN_FWD_WR:
         low = data - 1;
@@ -110,7 +110,7 @@ static bool is_sealed(const uint16_t *answer, size_t length)
 }
 
 /* 02 item 1: 20 first, whatever the buffer, then 21; a refusal writes nothing. */
-int32_t icelichen_frame(uint16_t command, uint16_t ends, uint16_t address, uint16_t count,
+int32_t icelichen_frame(uint32_t command, uint32_t ends, uint32_t address, uint32_t count,
                         const uint16_t *words, size_t words_length, uint16_t *buffer, size_t buffer_length)
 {
     if (!fields_fit(command, ends, address, count) || !words_fit(command, address, words_length))
@@ -125,7 +125,7 @@ int32_t icelichen_frame(uint16_t command, uint16_t ends, uint16_t address, uint1
 }
 
 /* 02 item 1: any STATUS value with a right CRC word is STATUS. */
-int32_t icelichen_status(uint16_t command, uint16_t ends, uint16_t address, uint16_t count,
+int32_t icelichen_status(uint32_t command, uint32_t ends, uint32_t address, uint32_t count,
                          const uint16_t *answer, size_t answer_length)
 {
     if (!fields_fit(command, ends, address, count) || is_read(command))
@@ -136,12 +136,12 @@ int32_t icelichen_status(uint16_t command, uint16_t ends, uint16_t address, uint
 }
 
 /* 02 item 1: the data stay in the caller's slice, their number is answered. */
-int32_t icelichen_data(uint16_t command, uint16_t ends, uint16_t address, uint16_t count,
+int32_t icelichen_data(uint32_t command, uint32_t ends, uint32_t address, uint32_t count,
                        const uint16_t *answer, size_t answer_length)
 {
     if (!fields_fit(command, ends, address, count) || !is_read(command))
         return ICELICHEN_OUTSIDE_LIMITS;
     if (answer_length != (size_t)count + 1 || !is_sealed(answer, answer_length))
         return ICELICHEN_OUTSIDE_LIMITS;
-    return count;
+    return (int32_t)count;
 }

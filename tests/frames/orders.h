@@ -11,7 +11,7 @@
 enum { REGISTERS = 11 };
 
 struct order {
-    uint16_t command, ends, address, count;
+    uint32_t command, ends, address, count;
 };
 
 /* A row: numbers of data words, and the fields the command has. */
@@ -45,7 +45,7 @@ static inline void each_order(const struct row *row, void (*visit)(const struct 
         for (unsigned address = 0; address <= last_address; address++) {
             unsigned last = row->reads == 0 ? 0 : row->registers ? REGISTERS - address : row->reads;
             for (unsigned count = row->reads == 0 ? 0 : 1; count <= last; count++) {
-                struct order o = {row->command, (uint16_t)ends, (uint16_t)address, (uint16_t)count};
+                struct order o = {row->command, ends, address, count};
                 visit(row, &o);
             }
         }

@@ -64,7 +64,7 @@ static size_t answer_length(const struct order *o)
 
 static unsigned long most, events;
 static unsigned from;
-static uint16_t command;
+static uint32_t command;
 
 static void close_part(void)
 {
@@ -130,7 +130,7 @@ static void judge_answer(const struct order *o, size_t words)
     }
     int32_t status = icelichen_status(o->command, o->ends, o->address, o->count, answer, length);
     int32_t data = icelichen_data(o->command, o->ends, o->address, o->count, answer, length);
-    if (o->count > 0 ? data != o->count || status != ICELICHEN_OUTSIDE_LIMITS : status != answer[0] || data != ICELICHEN_OUTSIDE_LIMITS)
+    if (o->count > 0 ? data != (int32_t)o->count || status != ICELICHEN_OUTSIDE_LIMITS : status != answer[0] || data != ICELICHEN_OUTSIDE_LIMITS)
         fail(o, words, "the bench's answer is not read as this order's");
 }
 

@@ -32,11 +32,11 @@ struct tally {
     uint32_t digest;
 };
 
-/* The grid. 10, 11, 12 words are the edge of REG_WR; 65,536 and 65,537 would be 0 and 1 in 16 bits. */
-static const uint16_t COMMANDS[] = {0, 1, 2, 3, 4, 5, 6, 7, 8, 9, 10, 11, 12, 13, 14, 15, 16, 17, 18, 19, 20, 65535};
-static const uint16_t ENDS[] = {0, 1, 2, 63, 126, 127, 128, 2047, 65535};
-static const uint16_t ADDRESSES[] = {0, 1, 2, 3, 4, 5, 6, 7, 8, 9, 10, 11, 12, 13, 16, 65535};
-static const uint16_t COUNTS[] = {0, 1, 2, 10, 11, 12, 255, 256, 257, 65535};
+/* The grid. 10, 11, 12 words are the edge of REG_WR; 65,536 and 65,537 would be 0 and 1 in 16 bits, 65,538 would be FWD_WR_CRC. */
+static const uint32_t COMMANDS[] = {0, 1, 2, 3, 4, 5, 6, 7, 8, 9, 10, 11, 12, 13, 14, 15, 16, 17, 18, 19, 20, 65535, 65538, 65548};
+static const uint32_t ENDS[] = {0, 1, 2, 63, 126, 127, 128, 2047, 65535, 65536};
+static const uint32_t ADDRESSES[] = {0, 1, 2, 3, 4, 5, 6, 7, 8, 9, 10, 11, 12, 13, 16, 65535, 65536, 4294967295};
+static const uint32_t COUNTS[] = {0, 1, 2, 10, 11, 12, 255, 256, 257, 65535, 65536, 65537};
 static const size_t NUMBERS[] = {0, 1, 2, 10, 11, 12, 30, 31, 32, 33, 511, 512, 513, 4095, 4096, 4097, 65536, 65537, 70000};
 
 static uint16_t pool[POOL];             /* data words */
@@ -155,7 +155,7 @@ static void tell_frame(const struct order *o, size_t number, size_t length, int3
 }
 
 /* All addresses and counts of the grid, one length of buffer; the digest is over results and buffers. */
-static struct tally grid_part(uint16_t command, uint16_t ends, size_t number, size_t length, uint32_t unchanged)
+static struct tally grid_part(uint32_t command, uint32_t ends, size_t number, size_t length, uint32_t unchanged)
 {
     struct tally t = {0, 0, NO_WORDS};
     struct order o = {command, ends, 0, 0};
@@ -430,7 +430,7 @@ static void answers_of_order(const struct row *row, const struct order *o)
 
 /* ---- outside: the grid's orders ---- */
 
-static void outside_group(uint16_t command, uint16_t ends)
+static void outside_group(uint32_t command, uint32_t ends)
 {
     struct tally status = {0, 0, NO_WORDS}, data = status, none = status;
     for (size_t a = 0; a < CELLS_OF(ADDRESSES); a++) {

@@ -72,20 +72,21 @@ fn print_line(list: &[u8], number: usize) {
     print(&list[from..to]);
 }
 
-// The words of an answer are not its order's.
+// The order's own fields stand before it. The words of an answer are not its order's.
 fn tell_outside(command: usize, answer: bool, words: u64) {
-    if answer {
-        print(b"an order outside its limits (");
-    } else if words == 1 {
-        print(b"1 word is outside its limits (");
-    } else {
-        tell(words, b" words are outside its limits (");
-    }
+    print(b"expected ");
     print_line(
-        b"\n\n1 to 512\n1 to 4096\nends 0 to 127, 0 to 31 words\nends 0 to 127, 0 to 31 words\nends 0 to 127, 1 to 32 words\nends 0 to 127, 1 to 32 words\ncount 1 to 256, no words\ncount 1 to 256, no words\naddress 0 to 10, 1 to 11 words, address + words at most 11\naddress 0 to 10, 1 to 11 words, address + words at most 11\naddress 0 to 10, count 1 to 11, address + count at most 11, no words\naddress 0 to 10, count 1 to 11, address + count at most 11, no words\nno words",
+        b"\n\n1 to 512 words\n1 to 4096 words\nends 0 to 127, 0 to 31 words\nends 0 to 127, 0 to 31 words\nends 0 to 127, 1 to 32 words\nends 0 to 127, 1 to 32 words\ncount 1 to 256, no words\ncount 1 to 256, no words\naddress 0 to 10, 1 to 11 words, address + words at most 11\naddress 0 to 10, 1 to 11 words, address + words at most 11\naddress 0 to 10, count 1 to 11, address + count at most 11, no words\naddress 0 to 10, count 1 to 11, address + count at most 11, no words\nno words",
         command,
     );
-    print(b")");
+    if answer {
+        print(b", found an order outside these limits");
+    } else if words == 1 {
+        print(b", found 1 word with these fields");
+    } else {
+        print(b", found ");
+        tell(words, b" words with these fields");
+    }
 }
 
 // The words that an answer has: STATUS or data, and their CRC (01 Frames).
@@ -98,7 +99,7 @@ pub fn due(command: usize, count: u32) -> u64 {
 
 fn tell_length(due: u64, found: u64) {
     print(b"expected an answer of ");
-    tell(due, b" words, found ");
+    tell(due, b" words, and no data words of the order; found ");
     tell(found, b"");
 }
 
@@ -115,7 +116,7 @@ pub fn told(text: &Text, line: u64, name: Name, items: Items, reason: usize, due
         OUTSIDE => tell_outside(name.command, name.answer, words),
         WRONG_LENGTH => tell_length(due, words),
         _ => print_line(
-            b"\nexpected a command's name behind answer, found nothing\nexpected a command's name in capitals, such as FWD_WR_CRC, or answer and a name, found \nexpected a field ends=, address= or count=, found \nexpected no such field in this command, found \nexpected each field once, found again \nexpected fields before the words, found behind a word \nexpected a decimal number from 0 to 65535, found \nexpected four hex digits, found \nexpected at most 4096 words, found one more, \nexpected the CRC of the words before it, found \nexpected the field ends=, found no such field\nexpected the field address=, found no such field\nexpected the field count=, found no such field\nthe words cannot be written to standard output",
+            b"\nexpected a command's name behind answer, found nothing\nexpected a command's name in capitals, such as FWD_WR_CRC, or answer and a name, found \nexpected a field ends=, address= or count=, found \nexpected no such field in this command, found \nexpected each field once, found again \nexpected fields before the words, found behind a word \nexpected a decimal number from 0 to 65535, found \nexpected four hex digits, found \nexpected at most 4096 words, which is the most of any order, found one more, \nexpected the CRC of the words before it, found \nexpected the field ends=, found no such field\nexpected the field address=, found no such field\nexpected the field count=, found no such field\nthe words cannot be written to standard output",
             reason,
         ),
     }

@@ -1,9 +1,14 @@
 -- What a program in C gets (02 item 1; include/icelichen_frames.h): a number, and below 0 a refusal, minus the number that 02 gives it. Assumes nothing.
+use mathlib.Core.Bool.{Bool, _&&_}
 use mathlib.Core.List.{List}
 use Prim.Native.Nat.{ℕ}
+use lib.Dec.{ltb}
 use lib.IntN.{ℤ, pos, negsuc}
+use Rattle.base.specs.Bits.{wordEnd}
+use Rattle.base.specs.Pick.{pick}
 use Rattle.frames.specs.Answers.{toldOf}
 use Rattle.frames.specs.Frames.{writtenOf}
+use Rattle.frames.specs.Orders.{orderOf}
 use Rattle.frames.specs.declared.Named.{Named}
 use Rattle.frames.specs.declared.Named.the-variants.{Unknown, Known}
 use Rattle.frames.specs.declared.Told.{Told}
@@ -32,6 +37,14 @@ abbrev pub dataCode : Told → ℤ
 dataCode (Status value) = refusal20
 dataCode (Data count) = pos count
 dataCode Refused = refusal20
+
+-- an order by four numbers, none of them cut: what has more than sixteen bits is no order's. ours
+abbrev pub sixteen : ℕ → Bool
+sixteen n = ltb n wordEnd
+
+unfoldable pub orderBy : ℕ → ℕ → ℕ → ℕ → Named
+orderBy command ends address count =
+    pick (sixteen command && (sixteen ends && (sixteen address && sixteen count))) (orderOf command ends address count) Unknown
 
 -- the number, and the buffer as it is left
 pub record Coded : Type 0 where
