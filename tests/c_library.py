@@ -2,8 +2,9 @@
 """The library for C (include/icelichen_frames.h), built, linked by the machine's C compiler and tried.
 
 1. tests/frames/trial.c linked with the library and with tests/frames/model.c, a program of 02's item 1 by another hand, with another CRC: every
-   byte that they print is equal. It goes through all command words that 01 allows, limits, buffers with guards around them, answers right and
-   wrong. The C side runs with gcc's sanitizers too.
+   byte that they print is equal. It goes through all command words that 01 allows (as many of each number as tests/command.py counts), limits,
+   buffers with guards around them, answers right and wrong; what is only read ends at a page that cannot be. The driver and the other program run
+   with gcc's sanitizers too, which do not see into the library.
 2. tests/frames/sent.c: the library's frame for every command word that 01 allows goes to the bench program, its notes are none of a wrong
    frame's, and the library reads its answer as that order's. The bench program is compiled from its source without its proof
    (tests/mutation/outside.py), and the independent program (tests/model) prints the same of each script, byte for byte.
@@ -26,6 +27,9 @@ sys.dont_write_bytecode = True
 sys.path[:0] = [str(TESTS / "model"), str(TESTS / "mutation"), str(ROOT / "tools")]
 import frames  # noqa: E402
 import outside  # noqa: E402
+
+sys.path.append(str(TESTS))
+from command import decode  # noqa: E402
 from pair import built_model  # noqa: E402
 
 LIBRARY = ROOT / "target/staticlib/libicelichen_frames.a"
@@ -54,12 +58,21 @@ def printed(*words):
     return ran.stdout
 
 
+def allowed():
+    """How many command words of each number 01 allows, by the test of the command words (command.py)."""
+    opens = [word >> 12 for word in range(65536) if decode(word)[0] not in ("filler", "malformed")]
+    return [b"all number %d: %d distinct command words" % (number, opens.count(number)) for number in range(16)]
+
+
 def tried(work):
     """The library and the other hand's program, line by line."""
     trial, model = TESTS / "frames/trial.c", TESTS / "frames/model.c"
     ours = printed(compiled(work / "trial", trial, LIBRARY)).splitlines()
-    theirs = printed(compiled(work / "trial_model", trial, model)).splitlines()
+    theirs = printed(compiled(work / "trial_model", *SANITIZED, trial, model)).splitlines()
     watched = printed(compiled(work / "trial_watched", *SANITIZED, trial, LIBRARY)).splitlines()
+    for line in allowed():
+        if not any(one.startswith(line + b" ") for one in ours):
+            sys.exit(f"c_library: 01 has {line.decode().removeprefix('all ')}, the library wrote others")
     for name, other in (("the other program", theirs), ("itself with sanitizers", watched)):
         if ours != other:
             at = next((i for i, pair in enumerate(zip(ours, other)) if pair[0] != pair[1]), min(len(ours), len(other)))
@@ -96,7 +109,7 @@ def sent_all(work):
     if orders != int(parts[-1][1]) + 1:
         sys.exit(f"c_library: {orders} of {int(parts[-1][1]) + 1} orders were judged")
     events = sum(int(part[3]) for part in parts)
-    print(f"c_library: {orders} command words, {events} events of the bench program: every frame found, every answer read", flush=True)
+    print(f"c_library: {orders} command words, {events} events of the bench program: no note of a wrong frame, every answer read", flush=True)
 
 
 def example(work):

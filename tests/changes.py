@@ -16,10 +16,13 @@ from listed import changes  # noqa: E402
 
 
 def edits():
-    """Each must-fail edit: its name, the file that it changes and the text that it replaces."""
+    """Each text that a must-fail edit replaces: the edit's name, the file, the text."""
     for edit in sorted(ROOT.glob("crates/*/must-fail/*.edit")):
-        parts = dict(re.findall(r"^(file|old): (.*)$", edit.read_text(), re.M))
-        yield edit.relative_to(ROOT), edit.parents[1] / parts.get("file", ""), parts.get("old", "")
+        file = ""
+        for key, value in re.findall(r"^(file|old): (.*)$", edit.read_text(), re.M):
+            file = value if key == "file" else file
+            if key == "old":
+                yield edit.relative_to(ROOT), edit.parents[1] / file, value
 
 
 def small_changes():
@@ -42,7 +45,7 @@ def main():
     if bad:
         print(*bad, sep="\n")
         sys.exit(f"changes: {len(bad)} do not fit")
-    print(f"changes: {len(by_edit)} edits and {len(by_list)} small changes fit")
+    print(f"changes: {len({edit for edit, *_ in by_edit})} edits and {len(by_list)} small changes fit")
 
 
 if __name__ == "__main__":

@@ -16,12 +16,16 @@
  * Digests are FNV-1a of 32 bits over words, high byte first. The last line counts the faults that need no second program to be
  * seen (a refusal that wrote, a guard cell changed, a wrong CRC word, a turned bit not found ..); with one the exit status is 1.
  */
+#define _DEFAULT_SOURCE
 #include "icelichen_frames.h"
 #include "orders.h"
 
 #include <stdbool.h>
 #include <stdio.h>
+#include <stdlib.h>
 #include <string.h>
+#include <sys/mman.h>
+#include <unistd.h>
 
 enum { GUARD = 64, POOL = 70000, MUCH = 1000, ARENA = GUARD + POOL + ICELICHEN_BESIDE + MUCH + GUARD };
 enum { WATCHED = 4097, LONGEST = 300, SHORT_ANSWER = 13, ALL_ONES_TO = 260, FAULTS_TOLD = 50, FRAMES_TOLD = 5000 };
@@ -39,11 +43,11 @@ static const uint32_t ADDRESSES[] = {0, 1, 2, 3, 4, 5, 6, 7, 8, 9, 10, 11, 12, 1
 static const uint32_t COUNTS[] = {0, 1, 2, 10, 11, 12, 255, 256, 257, 65535, 65536, 65537};
 static const size_t NUMBERS[] = {0, 1, 2, 10, 11, 12, 30, 31, 32, 33, 511, 512, 513, 4095, 4096, 4097, 65536, 65537, 70000};
 
-static uint16_t pool[POOL];             /* data words */
+static uint16_t *pool;                  /* data words; a page that cannot be read lies behind them */
 static uint16_t fresh[ARENA];           /* the pattern before a call */
 static uint16_t arena[ARENA];           /* guard cells, the buffer, guard cells */
 static uint16_t *const buffer = arena + GUARD;
-static uint16_t store[LONGEST];         /* an answer lies at its end, so that a word read behind it is outside the array */
+static uint16_t *store;                 /* an answer lies at its end, and behind it a page that cannot be read */
 static bool came_out[65536];            /* command words */
 static unsigned faults;
 
@@ -56,6 +60,18 @@ static uint16_t next_word(void)
     seed ^= seed >> 17;
     seed ^= seed << 5;
     return (uint16_t)(seed >> 8);
+}
+
+/* This many words, right before a page that cannot be read: one word too far ends the program. */
+static uint16_t *guarded(size_t words)
+{
+    size_t page = (size_t)sysconf(_SC_PAGESIZE), room = (words * sizeof(uint16_t) + page - 1) / page * page;
+    unsigned char *from = mmap(NULL, room + page, PROT_READ | PROT_WRITE, MAP_PRIVATE | MAP_ANONYMOUS, -1, 0);
+    if (from == MAP_FAILED || mprotect(from + room, page, PROT_NONE) != 0) {
+        fprintf(stderr, "trial: no memory with a guard behind it\n");
+        exit(2);
+    }
+    return (uint16_t *)(void *)(from + room) - words;
 }
 
 /* FNV-1a: its start, and its step for two bytes. */
@@ -497,6 +513,8 @@ static void values(void)
 
 int main(void)
 {
+    pool = guarded(POOL);
+    store = guarded(LONGEST);
     for (size_t i = 0; i < POOL; i++)
         pool[i] = next_word();
     for (size_t i = 0; i < ARENA; i++)

@@ -47,3 +47,9 @@ toldBy (DataDue count) words = pick (isAnswer count words) (Data count) Refused
 -- "20 .. an answer of wrong length or CRC"
 unfoldable pub toldOf : Order → List ℕ → Told
 toldOf o words = toldBy (dueOf o) words
+
+-- the refusal by 02's number; 0 is none
+abbrev pub answerRefusal : Told → ℕ
+answerRefusal (Status value) = 0
+answerRefusal (Data count) = 0
+answerRefusal Refused = 20

@@ -34,6 +34,12 @@ pub record Out : Type 0 where
 abbrev pub out : Written → List ℕ → Out
 out answer buffer = record { answer = answer; buffer = buffer }
 
+-- the refusals by 02's numbers; 0 is none
+abbrev pub writtenRefusal : Written → ℕ
+writtenRefusal (Frame words) = 0
+writtenRefusal OutsideLimits = 20
+writtenRefusal BufferShort = 21
+
 -- "Refusals: 20 command outside 01's limits .., 21 buffer too short, in that order, buffer untouched"
 unfoldable pub writtenOf : Order → List ℕ → List ℕ → Out
 writtenOf o ws buffer =

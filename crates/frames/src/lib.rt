@@ -4,8 +4,8 @@ ghost use mathlib.Core.Path.{_≡_};
 ghost use mathlib.Core.List.{_∷_};
 ghost use Prim.Native.Nat.{_+_, _≤_};
 ghost use lib.ListN.{length};
-ghost use Rattle.frames.specs.Answers.{isAnswer, toldOf};
-ghost use Rattle.frames.specs.Frames.{beside, checked, over, out, writtenOf};
+ghost use Rattle.frames.specs.Answers.{isAnswer, toldOf, answerRefusal};
+ghost use Rattle.frames.specs.Frames.{beside, checked, over, out, writtenOf, writtenRefusal};
 
 mod rows;
 
@@ -126,5 +126,27 @@ pub fn read_answer(order: Order, answer: &[u16]) -> Told
             }
             Told::Refused
         }
+    }
+}
+
+// 02's number of a refusal, 0 for a frame.
+pub fn written_refusal(written: Written) -> u16
+    ensures { λ r. ⌜ r ≡ writtenRefusal written ⌝ }
+{
+    match written {
+        Written::Frame(_) => 0,
+        Written::OutsideLimits => 20,
+        Written::BufferShort => 21,
+    }
+}
+
+// 02's number of a refusal, 0 for an answer.
+pub fn answer_refusal(told: Told) -> u16
+    ensures { λ r. ⌜ r ≡ answerRefusal told ⌝ }
+{
+    match told {
+        Told::Status(_) => 0,
+        Told::Data(_) => 0,
+        Told::Refused => 20,
     }
 }

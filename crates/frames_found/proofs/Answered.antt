@@ -96,6 +96,11 @@ module _ (n : ℕ) (c : Config) (es : List Event) (u : unbroken es ≡ true) whe
       let g = status-run (hostWords es) es c _ start (a .obeys) ph u refl l in
       sym (tells-status o (sdoIn ours c es) (dueOf o) refl true (sym (due o n h) ∙ e) (sym (is-answer 1 _ _ g)) refl) ∙ rw (g .sdo-is) refl
 
+  no-status-back : (o : Order) → Answers (meant o n) c → answerOf o ≡ StatusDue → bit 0 (c .bridge .control .regs .spictrl) ≡ true
+      → phaseOf c ≡ Idle
+  unfolding concluded pick
+  no-status-back o a e b = a .answer-is ∙ status-due o n (c .bridge .control) e ∙ rw b refl
+
   -- the words that a read gives
   module _ (count : ℕ) (l : length (hostWords es) ≡ count + 1) where
     data-given : (o : Order) → within o n ≡ true → Answers (meant o n) c → answerOf o ≡ DataDue count
@@ -138,6 +143,7 @@ reads-back o words c es w after h a u f v =
     let k = frame-ends o words c es w h a u f in
     record {
       status = λ e b l. status-back (length words) _ after v o h k e b l;
+      no-status = λ e b. no-status-back (length words) _ after v o k e b;
       data-told = λ count e l. told-back (length words) _ after v count l o h k e;
       data-is = λ count e l. data-back (length words) _ after v count l o h k e;
     }

@@ -1,18 +1,24 @@
 -- Numbers: frames of 01 and 02, and what is none.
 use mathlib.Core.Path.{_≡_, refl}
 use mathlib.Core.Bool.{true, false}
-use mathlib.Core.List.{[], _∷_}
+use mathlib.Core.List.{List, [], _∷_}
+use Prim.Native.Nat.{ℕ}
 use Rattle.base.specs.Bits.{val, odd, bit, highFirst}
 use Rattle.base.specs.Pick.{pick}
 use Rattle.crc16.specs.Crc.{shift, crcBit, crcBits, crcWord, crcFrom, crcOf}
 use Rattle.command.specs.Layout.{rows, byNumber, writeEnds, decodeOurs}
 use Rattle.command.specs.declared.Command.the-variants.{Forward}
+use Rattle.state.specs.Power.{powerUp}
+use Rattle.rules.proofs.Facts.{power-up-sound}
+use Rattle.events.specs.Events.{powered}
+use Rattle.bridge.specs.Runs.{RightStores, powerOn}
 use Rattle.frames.specs.Answers.{isAnswer, dueOf, toldBy, toldOf}
 use Rattle.frames.specs.Frames.{frameOf, out, writtenOf}
 use Rattle.frames.specs.Orders.{within}
 use Rattle.frames.specs.declared.Order.the-variants.{FwdWrCrc, FwdWrEndCrc, FwdWrEnd, DataRdCrc, RegRdCrc}
 use Rattle.frames.specs.declared.Told.the-variants.{Status, Data, Refused}
 use Rattle.frames.specs.declared.Written.the-variants.{Frame, OutsideLimits, BufferShort}
+use Rattle.frames_found.specs.Found.{Awaits}
 use Rattle.frames_found.specs.Frames.{isCommand}
 
 -- VSYNC (01 Numbers: the CRC of 0x2000, 0xAAF0 is 0xAE24)
@@ -65,3 +71,8 @@ turned = refl
 too-many : toldOf (DataRdCrc 257) (0x0400 ∷ 0xD1CB ∷ []) ≡ Refused
 unfolding toldOf dueOf toldBy pick
 too-many = refl
+
+-- A bridge awaits a frame from power-up on, with any words in its stores: the premise of `found` and `reads-back` can be had.
+from-power-up : (tx rx : List ℕ) → RightStores tx rx → Awaits (powerOn true tx rx)
+unfolding powerOn powered pick powerUp
+from-power-up tx rx r = record { stores = r; rules = power-up-sound; eight = refl; idle = refl }

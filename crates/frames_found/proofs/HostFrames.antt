@@ -7,36 +7,21 @@ use native.Mathlib.Omega.{arith}
 use lib.Dec.{ltb, leb, eqb}
 use lib.ListN.{length}
 use borrow.Author.Tests.{le-leb, ltb-true}
-use Rattle.base.specs.Pick.{pick, pick-true, and-both}
-use Rattle.frames.specs.Orders.{fieldsWithin, within, rows, orderOf}
+use Rattle.base.specs.Pick.{pick-true, and-both}
+use Rattle.frames.specs.Orders.{fieldsWithin, within}
 use Rattle.frames.specs.Frames.{beside, frameOf, over, out, writtenOf}
 use Rattle.frames.specs.declared.Order.{Order}
 use Rattle.frames.specs.declared.Order.the-variants.{FwdWrCrc, FwdWr, FwdWrEndCrc, FwdWrEnd, FwdRdEndCrc, FwdRdEnd, DataRdCrc, DataRd, RegWrCrc, RegWr, RegRdCrc, RegRd, SoftResetCrc}
 use Rattle.frames.specs.declared.Written.the-variants.{Frame}
-use Rattle.frames_found.specs.HostFrames.{Numbers, SomeWords, HostFrames}
+use Rattle.frames_found.specs.HostFrames.{SomeWords, HostFrames}
 use Rattle.frames_found.proofs.Answered.{reads-back}
 use Rattle.frames_found.proofs.Decoding.{decodes}
 use Rattle.frames_found.proofs.Found.{found}
 use Rattle.frames_found.proofs.Inverse.{one-way, well-formed}
+use Rattle.frames_found.proofs.Numbers.{numbered}
+use Rattle.frames_found.proofs.Refusals.{outside, short, due-is, status-right, data-right}
 use Rattle.frames_found.proofs.Ruled.{ruled}
 use Rattle.frames_found.proofs.Silence.{silent}
-
--- an order by its numbers
-numbered : (o : Order) → Numbers o
-unfolding orderOf rows pick
-numbered FwdWrCrc = record { number = 2; ends = 0; address = 0; count = 0; is = refl }
-numbered FwdWr = record { number = 3; ends = 0; address = 0; count = 0; is = refl }
-numbered (FwdWrEndCrc ends) = record { number = 4; ends = ends; address = 0; count = 0; is = refl }
-numbered (FwdWrEnd ends) = record { number = 5; ends = ends; address = 0; count = 0; is = refl }
-numbered (FwdRdEndCrc ends) = record { number = 6; ends = ends; address = 0; count = 0; is = refl }
-numbered (FwdRdEnd ends) = record { number = 7; ends = ends; address = 0; count = 0; is = refl }
-numbered (DataRdCrc count) = record { number = 8; ends = 0; address = 0; count = count; is = refl }
-numbered (DataRd count) = record { number = 9; ends = 0; address = 0; count = count; is = refl }
-numbered (RegWrCrc address) = record { number = 10; ends = 0; address = address; count = 0; is = refl }
-numbered (RegWr address) = record { number = 11; ends = 0; address = address; count = 0; is = refl }
-numbered (RegRdCrc address count) = record { number = 12; ends = 0; address = address; count = count; is = refl }
-numbered (RegRd address count) = record { number = 13; ends = 0; address = address; count = count; is = refl }
-numbered SoftResetCrc = record { number = 14; ends = 0; address = 0; count = 0; is = refl }
 
 written : (o : Order) (words buffer : List ℕ) → within o (length words) ≡ true → length words + beside ≤ length buffer
     → out (Frame (length words + beside)) (over (frameOf o words) buffer) ≡ writtenOf o words buffer
@@ -76,12 +61,17 @@ pub host-frames : HostFrames
 host-frames = record {
   numbered = numbered;
   written = λ o words buffer h k. sym (written o words buffer h k);
+  outside = outside;
+  short = short;
   decodes = decodes;
   well-formed = well-formed;
   one-way = one-way;
   ruled = ruled;
   found = found;
   reads-back = reads-back;
+  due-is = due-is;
+  status-right = status-right;
+  data-right = data-right;
   answerable = answerable;
   silent = silent;
 }

@@ -9,6 +9,8 @@ mod Ending
 mod Answering
 mod Answered
 mod Ruled
+mod Refusals
+mod Numbers
 mod Silence
 mod Examples
 pub mod HostFrames

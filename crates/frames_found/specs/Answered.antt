@@ -1,6 +1,6 @@
 -- What the bridge answers to an order, and that it reads back as such (02 item 1, "read the answer back as STATUS or data"). Assumes nothing.
 use mathlib.Core.Path.{_≡_}
-use mathlib.Core.Bool.{false}
+use mathlib.Core.Bool.{true, false}
 use mathlib.Core.List.{List, [], _∷_, map}
 use Prim.Native.Nat.{ℕ, _+_}
 use lib.Dec.{eqb}
@@ -8,14 +8,18 @@ use lib.ListN.{length, take}
 use Rattle.base.specs.Bits.{bit}
 use Rattle.base.specs.Pick.{pick}
 use Rattle.command.specs.Layouts.{Layout, ours}
+use Rattle.command.specs.declared.Command.{Command}
+use Rattle.command.specs.declared.Command.the-variants.{Filler, Malformed, Forward, DataRead, RegisterWrite, RegisterRead, SoftReset}
 use Rattle.registers.specs.Registers.{statusOf, readOf}
 use Rattle.state.specs.Rings.{oldest}
+use Rattle.state.specs.declared.Phase.the-variants.{Idle}
 use Rattle.plan.specs.Plan.{noAnswer}
 use Rattle.events.specs.declared.Event.{Event}
 use Rattle.bridge.specs.Runs.{Config}
 use Rattle.order.specs.Framed.{hostWords}
 use Rattle.frames.specs.Answers.{answerOf, toldOf}
-use Rattle.frames.specs.declared.Due.the-variants.{StatusDue, DataDue}
+use Rattle.frames.specs.declared.Due.{Due}
+use Rattle.frames.specs.declared.Due.the-variants.{Nothing, StatusDue, DataDue}
 use Rattle.frames.specs.declared.Order.{Order}
 use Rattle.frames.specs.declared.Order.the-variants.{FwdWrCrc, FwdWr, FwdWrEndCrc, FwdWrEnd, FwdRdEndCrc, FwdRdEnd, DataRdCrc, DataRd, RegWrCrc, RegWr, RegRdCrc, RegRd, SoftResetCrc}
 use Rattle.frames.specs.declared.Told.the-variants.{Status, Data}
@@ -62,10 +66,21 @@ dataAt (RegRdCrc address count) cs = registersAt address (take count cs)
 dataAt (RegRd address count) cs = registersAt address (take count cs)
 dataAt SoftResetCrc cs = []
 
+-- what the bridge answers a command with: "FWD, REG_WR and reset answer STATUS", "Reads answer the words" (01 Frames)
+abbrev pub answeredWith : Command → Due
+answeredWith Filler = Nothing
+answeredWith Malformed = Nothing
+answeredWith (Forward crc words ends reads) = StatusDue
+answeredWith (DataRead crc words) = DataDue words
+answeredWith (RegisterWrite crc address count) = StatusDue
+answeredWith (RegisterRead crc address count) = DataDue count
+answeredWith SoftReset = StatusDue
+
 -- c is as the frame's CRC word left it, and es brings as many host words as the answer has. "unless SPICTRL bit 0 is 1" (01 Frames).
 pub record ReadsBack (o : Order) (c : Config) (es : List Event) : Type 0 where
   -- "STATUS and its CRC .. taken at the CRC word after its effects"
   pub status : answerOf o ≡ StatusDue → bit 0 (c .bridge .control .regs .spictrl) ≡ false → length (hostWords es) ≡ 2
       → toldOf o (sdoIn ours c es) ≡ Status (statusOf (c .bridge .control))
+  pub no-status : answerOf o ≡ StatusDue → bit 0 (c .bridge .control .regs .spictrl) ≡ true → c .bridge .frame .phase ≡ Idle
   pub data-told : (count : ℕ) → answerOf o ≡ DataDue count → length (hostWords es) ≡ count + 1 → toldOf o (sdoIn ours c es) ≡ Data count
   pub data-is : (count : ℕ) → answerOf o ≡ DataDue count → length (hostWords es) ≡ count + 1 → take count (sdoIn ours c es) ≡ dataAt o (foundBy ours c es)

@@ -2,9 +2,9 @@
 -- cites the theorem behind each. `within`, `frameOf`, `writtenOf` and `toldOf` are crates/frames/specs, and the contracts of `frames::write` and
 -- `frames::read_answer` say that the code does what `writtenOf` and `toldOf` say, for every input. Assumes nothing.
 use mathlib.Core.Path.{_≡_}
-use mathlib.Core.Bool.{true}
+use mathlib.Core.Bool.{true, false}
 use mathlib.Core.List.{List, [], _∷_, _++_}
-use Prim.Native.Nat.{ℕ, _+_, _≤_}
+use Prim.Native.Nat.{ℕ, _+_, _≤_, _<_}
 use lib.ListN.{length}
 use Rattle.command.specs.Layout.{decodeOurs}
 use Rattle.command.specs.Layouts.{Layout, ours}
@@ -13,33 +13,46 @@ use Rattle.events.specs.declared.Event.{Event}
 use Rattle.events.specs.declared.Event.the-variants.{Word}
 use Rattle.bridge.specs.Runs.{Config, endOf}
 use Rattle.order.specs.Framed.{hostWords}
-use Rattle.frames.specs.Orders.{fieldsWithin, within, commandWord, meant, orderOf}
-use Rattle.frames.specs.Frames.{beside, frameOf, over, out, writtenOf}
+use Rattle.frames.specs.Answers.{dueOf, toldOf}
+use Rattle.frames.specs.Orders.{numberOf, fieldsWithin, within, commandWord, meant, orderOf}
+use Rattle.frames.specs.Frames.{checked, beside, frameOf, over, out, writtenOf}
 use Rattle.frames.specs.declared.Named.the-variants.{Known}
 use Rattle.frames.specs.declared.Order.{Order}
-use Rattle.frames.specs.declared.Written.the-variants.{Frame}
-use Rattle.frames_found.specs.Answered.{ReadsBack}
+use Rattle.frames.specs.declared.Told.the-variants.{Status, Data}
+use Rattle.frames.specs.declared.Written.the-variants.{Frame, OutsideLimits, BufferShort}
+use Rattle.frames_found.specs.Answered.{answeredWith, ReadsBack}
 use Rattle.frames_found.specs.Found.{partOf, Ruled, Awaits, unbroken, Found}
 use Rattle.frames_found.specs.Frames.{WellFormed, OneWay}
 use Rattle.frames_found.specs.Silence.{Silent}
 
--- an order's row of numbers, and a number of data words that it takes
+-- an order's row of numbers: its command's number and its fields, in one way
 pub record Numbers (o : Order) : Type 0 where
-  pub number : ℕ
   pub ends : ℕ
   pub address : ℕ
   pub count : ℕ
-  pub is : orderOf number ends address count ≡ Known o
+  pub is : orderOf (numberOf o) ends address count ≡ Known o
+  pub only : (n e a c : ℕ) → orderOf n e a c ≡ Known o → ((n ≡ numberOf o) × (e ≡ ends)) × ((a ≡ address) × (c ≡ count))
 
+-- a number of data words that an order takes
 pub record SomeWords (o : Order) : Type 0 where
   pub some : ℕ
   pub allowed : within o some ≡ true
+
+-- so many words, and their CRC, and no word more
+pub record Exactly (n : ℕ) (words : List ℕ) : Type 0 where
+  pub given : List ℕ
+  pub so-many : length given ≡ n
+  pub words-are : words ≡ checked given
 
 pub record HostFrames : Type 0 where
   -- "Every command that 01 allows can be written": by its numbers too, and in a buffer with room for it.
   pub numbered : (o : Order) → Numbers o
   pub written : (o : Order) (words buffer : List ℕ) → within o (length words) ≡ true → length words + beside ≤ length buffer
       → writtenOf o words buffer ≡ out (Frame (length words + beside)) (over (frameOf o words) buffer)
+  -- "Refusals: 20 command outside 01's limits .., 21 buffer too short, in that order, buffer untouched."
+  pub outside : (o : Order) (words buffer : List ℕ) → within o (length words) ≡ false → writtenOf o words buffer ≡ out OutsideLimits buffer
+  pub short : (o : Order) (words buffer : List ℕ) → within o (length words) ≡ true → length buffer < length words + beside
+      → writtenOf o words buffer ≡ out BufferShort buffer
   -- ".. and the bridge's reader finds that same command": its decoding does, of the command word, and the frame has that command's data words and a right CRC word.
   pub decodes : (o : Order) (n : ℕ) → within o n ≡ true → decodeOurs (commandWord o n) ≡ meant o n
   pub well-formed : (o : Order) (words : List ℕ) → within o (length words) ≡ true → WellFormed (frameOf o words)
@@ -54,6 +67,10 @@ pub record HostFrames : Type 0 where
   pub reads-back : (o : Order) (words : List ℕ) (c : Config) (es : List Event) (w : ℕ) (after : List Event) → within o (length words) ≡ true → Awaits c
       → unbroken es ≡ true → hostWords (es ++ (Word w ∷ [])) ≡ frameOf o words → unbroken after ≡ true
       → ReadsBack o (endOf ours c (es ++ (Word w ∷ []))) after
+  -- ".. or an answer of wrong length or CRC": what is told is an answer of the right length and CRC, of the kind that the bridge gives to the command.
+  pub due-is : (o : Order) (n : ℕ) → within o n ≡ true → dueOf o ≡ answeredWith (meant o n)
+  pub status-right : (o : Order) (words : List ℕ) (value : ℕ) → toldOf o words ≡ Status value → words ≡ checked (value ∷ [])
+  pub data-right : (o : Order) (words : List ℕ) (count : ℕ) → toldOf o words ≡ Data count → Exactly count words
   -- An order whose fields are within their limits has a number of words with which it is written; the reader of answers refuses the others.
   pub answerable : (o : Order) → fieldsWithin o ≡ true → SomeWords o
   -- Words of 1s alone are no answer.
