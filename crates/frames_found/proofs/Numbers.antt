@@ -12,51 +12,30 @@ use Rattle.frames.specs.declared.Order.{Order}
 use Rattle.frames.specs.declared.Order.the-variants.{FwdWrCrc, FwdWr, FwdWrEndCrc, FwdWrEnd, FwdRdEndCrc, FwdRdEnd, DataRdCrc, DataRd, RegWrCrc, RegWr, RegRdCrc, RegRd, SoftResetCrc}
 use Rattle.frames_found.specs.HostFrames.{Numbers}
 
--- an order's fields
+-- an order's extra ENDs, address and count; what its row does not have is 0
+abbrev fieldsOf : Order → ℕ × (ℕ × ℕ)
+fieldsOf FwdWrCrc = (0, (0, 0))
+fieldsOf FwdWr = (0, (0, 0))
+fieldsOf (FwdWrEndCrc ends) = (ends, (0, 0))
+fieldsOf (FwdWrEnd ends) = (ends, (0, 0))
+fieldsOf (FwdRdEndCrc ends) = (ends, (0, 0))
+fieldsOf (FwdRdEnd ends) = (ends, (0, 0))
+fieldsOf (DataRdCrc count) = (0, (0, count))
+fieldsOf (DataRd count) = (0, (0, count))
+fieldsOf (RegWrCrc address) = (0, (address, 0))
+fieldsOf (RegWr address) = (0, (address, 0))
+fieldsOf (RegRdCrc address count) = (0, (address, count))
+fieldsOf (RegRd address count) = (0, (address, count))
+fieldsOf SoftResetCrc = (0, (0, 0))
+
 abbrev endsOf : Order → ℕ
-endsOf FwdWrCrc = 0
-endsOf FwdWr = 0
-endsOf (FwdWrEndCrc ends) = ends
-endsOf (FwdWrEnd ends) = ends
-endsOf (FwdRdEndCrc ends) = ends
-endsOf (FwdRdEnd ends) = ends
-endsOf (DataRdCrc count) = 0
-endsOf (DataRd count) = 0
-endsOf (RegWrCrc address) = 0
-endsOf (RegWr address) = 0
-endsOf (RegRdCrc address count) = 0
-endsOf (RegRd address count) = 0
-endsOf SoftResetCrc = 0
+endsOf o = fieldsOf o .0
 
 abbrev addressOf : Order → ℕ
-addressOf FwdWrCrc = 0
-addressOf FwdWr = 0
-addressOf (FwdWrEndCrc ends) = 0
-addressOf (FwdWrEnd ends) = 0
-addressOf (FwdRdEndCrc ends) = 0
-addressOf (FwdRdEnd ends) = 0
-addressOf (DataRdCrc count) = 0
-addressOf (DataRd count) = 0
-addressOf (RegWrCrc address) = address
-addressOf (RegWr address) = address
-addressOf (RegRdCrc address count) = address
-addressOf (RegRd address count) = address
-addressOf SoftResetCrc = 0
+addressOf o = fieldsOf o .1 .0
 
 abbrev countOf : Order → ℕ
-countOf FwdWrCrc = 0
-countOf FwdWr = 0
-countOf (FwdWrEndCrc ends) = 0
-countOf (FwdWrEnd ends) = 0
-countOf (FwdRdEndCrc ends) = 0
-countOf (FwdRdEnd ends) = 0
-countOf (DataRdCrc count) = count
-countOf (DataRd count) = count
-countOf (RegWrCrc address) = 0
-countOf (RegWr address) = 0
-countOf (RegRdCrc address count) = count
-countOf (RegRd address count) = count
-countOf SoftResetCrc = 0
+countOf o = fieldsOf o .1 .1
 
 -- the numbers are those of what they name
 abbrev Back : ℕ → ℕ → ℕ → ℕ → Named → Type 0
