@@ -1,10 +1,11 @@
-// The calls of a case: its record and its stores lent to all five events and a drain. A call that went otherwise than wanted is told by a
-// number behind the case: 100 for power, 200 word, 300 tick, 400 release, 500 clock, 600 drain, 700 the word of notes 4 and 5, and its note.
+// The calls of a case: its record and its stores lent to all five events, a drain and a call-up. A call that went otherwise than wanted is told by a
+// number behind the case: 100 for power, 200 word, 300 tick, 400 release, 500 clock, 600 drain, 700 the word of notes 4 and 5, 800 call-up, and its
+// note or verdict.
 use events::Event;
 use libc::STDOUT_FILENO;
 use records::Fields;
 
-// What is wanted of the six calls: a refusal's note, or any other. And of a word before them: its note, or 0 for no word.
+// What is wanted of the seven calls: a refusal's note, or any other. And of a word before them: its note, or 0 for no word.
 pub struct Want {
     pub calls: u16,
     pub word: u16,
@@ -61,7 +62,7 @@ fn is_right(call: u16, note: u16, silent: bool, same: bool, want: u16) -> bool {
         return true;
     }
     io::write_all(STDOUT_FILENO, b" ");
-    io::print_decimal(STDOUT_FILENO, ((call % 8) * 100 + note % 16) as u64);
+    io::print_decimal(STDOUT_FILENO, ((call % 16) * 100 + note % 64) as u64);
     false
 }
 
@@ -116,16 +117,27 @@ fn last_word(note: u16) -> u16 {
     8
 }
 
-fn six(lent: &Fields, tx: &mut [u16], rx: &mut [u16], want: u16) -> bool {
+// Of a call-up that is refused no slot shows anything (02, item 13).
+fn called_up(lent: &Fields, tx: &mut [u16], rx: &mut [u16], want: u16) -> bool {
+    let words: [u16; 2] = [0xAA05, 7];
+    let end = board::call_up(board::empty(), records::built(lent), tx, rx, 5, 9, &words);
+    let judged = end.verdict;
+    let slots = end.board.slots;
+    let same = records::is(lent, end.bridge);
+    is_right(8, verdict::number(judged), slots[5].count == 0, same, want)
+}
+
+fn seven(lent: &Fields, tx: &mut [u16], rx: &mut [u16], want: u16) -> bool {
     let events = steps(lent, lent, tx, rx, 1, 6, want);
-    events & drained(lent, tx, rx, want)
+    let drain = drained(lent, tx, rx, want);
+    events & drain & called_up(lent, tx, rx, want)
 }
 
 // A cell that one of the calls changes is changed after the last.
 fn called(lent: &Fields, after: &Fields, tx: &mut [u16], rx: &mut [u16], want: Want) -> bool {
     let last = last_word(want.word);
     let word = steps(lent, after, tx, rx, 7, last, want.word) & are_filled(tx, rx);
-    let calls = six(lent, tx, rx, want.calls);
+    let calls = seven(lent, tx, rx, want.calls);
     word & calls & ((want.calls == TAKEN) | are_filled(tx, rx))
 }
 

@@ -1,5 +1,5 @@
 mod Laws
-mod Ticks
+pub mod Ticks
 pub mod Sum
 pub mod Steps
 pub mod Examples

@@ -1,4 +1,5 @@
 mod Laws
+pub mod Hears
 pub mod Pieces
 pub mod Trip
 pub mod Examples

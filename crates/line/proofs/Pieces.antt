@@ -1,22 +1,20 @@
 -- How the reader reads a whole piece, and a part of one. Assumes nothing.
-use mathlib.Core.Path.{_≡_, refl, ap, sym, _∙_}
+use mathlib.Core.Path.{_≡_, refl}
 use mathlib.Core.Bool.{Bool, true, false, not}
 use mathlib.Core.List.{List, [], _∷_, _++_}
-use mathlib.Core.Logic.{_≢_, _⊎_, inl, inr}
-use Prim.Native.Nat.{ℕ, zero, suc, _+_, _-_, _≤_, _<_, _/_, _%_, _^_}
+use mathlib.Core.Logic.{_⊎_, inl, inr}
+use Prim.Native.Nat.{ℕ, zero, suc, _≤_, _<_}
 use native.Mathlib.Omega.{arith}
-use native.Mathlib.Numerals.{add-one}
 use native.Mathlib.Decide.{decLe, ℕ-discrete}
-use lib.Dec.{ltb, eqb}
-use lib.Pow.{shr-shr, shr-le}
-use borrow.Author.Tests.{lt-ltb, eq-eqb, ne-eqb, eqb-true, eqb-false, ltb-false}
-use Rattle.base.specs.Pick.{pick, pick-keeps}
-use Rattle.base.specs.Bits.{val, odd, bit, val-le, val-odd}
+use Rattle.base.specs.Pick.{pick}
+use Rattle.base.specs.Bits.{val, bit, val-le}
 use Rattle.line.specs.declared.Piece.{Piece}
 use Rattle.line.specs.declared.Piece.the-variants.{Pause, StartBit, WordPiece, EndPiece}
+use Rattle.line.specs.declared.Ear.{Ear}
 use Rattle.line.specs.declared.Ear.the-variants.{Quiet, Group}
-use Rattle.line.specs.Format.{checkBit, pieceLength, wordBit, pieceBit}
+use Rattle.line.specs.Format.{checkBit, pieceLength, pieceBit}
 use Rattle.line.specs.Reader.{runOn, shiftIn, atCheck, inGroup, hear, Reading, collect, readBit}
+use Rattle.line.proofs.Hears.{run-le, hear-in, InWord, WordOn, word-none, word-on, word-end}
 
 -- Where the reader stands between two pieces: outside a command, or in one after a 0 or a 1.
 pub data Pos : Type 0 where
@@ -51,97 +49,42 @@ Fits (WordPiece w) (out finished) = ⊥
 Fits (WordPiece w) (within finished words b) = w < 65536
 Fits EndPiece p = Unit {0}
 
--- A run grows by one bit at most, and stops at a 0.
-run-le : (n : ℕ) (b : Bool) → runOn n b ≤ suc n
-unfolding runOn
-run-le n true = pick-keeps (λ (m : ℕ). m ≤ suc n) _ _ _ (λ h. omega arith) (λ h. omega (arith, ltb-false n 18 h))
-run-le n false = omega arith
-
-run-stops : (n : ℕ) (b : Bool) → b ≡ false → runOn n b ≡ 0
-unfolding runOn
-run-stops n b e = rw e
-
 module _ (finished : List (List ℕ)) (words : List ℕ) where
   -- A bit that does not complete its group.
   in-group : (v c n : ℕ) (b : Bool) → c < 16 → n ≤ suc c
       → readBit (record { finished = finished; words = words; ear = Group v c n }) b
       ≡ record { finished = finished; words = words; ear = Group (shiftIn v b) (suc c) (runOn n b) }
-  unfolding readBit hear inGroup collect pick
-  in-group v c n b h k =
-      let e : eqb (runOn n b) 18 ≡ false = ne-eqb (runOn n b) 18 (λ q. omega (arith, run-le n b)) in
-      let l : ltb c 16 ≡ true = lt-ltb c 16 h in
-      rw (e, l, add-one)
-
-  -- The check bit.
-  checked : (w n : ℕ) → (odd w ≡ false → n ≡ 0)
-      → readBit (record { finished = finished; words = words; ear = Group w 16 n }) (checkBit w) ≡ at (within finished (words ++ (w ∷ [])) (checkBit w))
-  unfolding checkBit readBit hear inGroup atCheck runOn collect at val pick
-  checked w n s = go (odd w) refl
-    where
-      go : (t : Bool) → odd w ≡ t
-          → readBit (record { finished = finished; words = words; ear = Group w 16 n }) (not t) ≡ at (within finished (words ++ (w ∷ [])) (not t))
-      go true e =
-          let m : w % 2 ≡ 1 = sym (val-odd w) ∙ ap val e in
-          rw (eq-eqb (0 + w % 2) 1 (omega arith))
-      go false e =
-          let m : w % 2 ≡ 0 = sym (val-odd w) ∙ ap val e in
-          rw (s e, eq-eqb (1 + w % 2) 1 (omega arith))
+  unfolding readBit collect
+  in-group v c n b h k = rw (hear-in v c n b h k)
 
   end-within : (b : Bool) → upTo (at (within finished words b)) (pieceBit EndPiece) 18 ≡ at (out (finished ++ (words ∷ [])))
   unfolding upTo at pieceBit readBit hear inGroup atCheck runOn shiftIn collect val pick
   end-within true = refl
   end-within false = refl
 
--- The number after one bit more of a word.
-next-bit : (w j : ℕ) → w < 65536 → j < 16 → shiftIn (w / 2 ^ (16 - j)) (bit (15 - j) w) ≡ w / 2 ^ (16 - suc j)
-unfolding shiftIn bit
-next-bit w j k h =
-    let e : 16 - j ≡ (15 - j) + 1 = omega arith in
-    let d : 16 - suc j ≡ 15 - j = omega arith in
-    let l : w / 2 ^ (15 - j) ≤ w = shr-le w (15 - j) in
-    rw (e, d, val-odd, ← (shr-shr w (15 - j) 1)) (omega arith)
+-- The reader in a word of which j bits came.
+record Reads (r : Reading) (finished : List (List ℕ)) (words : List ℕ) (w j : ℕ) : Type 0 where
+  ear : Ear
+  is : r ≡ record { finished = finished; words = words; ear = ear }
+  in-word : InWord w j ear
 
-last-bit : (w j : ℕ) → odd (w / 2 ^ (16 - suc j)) ≡ bit (15 - j) w
-unfolding bit
-last-bit w j = let e : 16 - suc j ≡ 15 - j = omega arith in rw e
+module _ (finished : List (List ℕ)) (words : List ℕ) (w : ℕ) (fits : w < 65536) (b : Bool) where
+  word-bits : (j : ℕ) → j ≤ 16 → Reads (upTo (at (within finished words b)) (pieceBit (WordPiece w)) j) finished words w j
+  unfolding upTo at readBit collect
+  word-bits zero k = record { ear = Group 0 0 (val b); is = refl; in-word = word-none w b fits }
+  word-bits (suc j) k = go (word-bits j (omega arith))
+    where
+      go : Reads (upTo (at (within finished words b)) (pieceBit (WordPiece w)) j) finished words w j
+          → Reads (readBit (upTo (at (within finished words b)) (pieceBit (WordPiece w)) j) (pieceBit (WordPiece w) j)) finished words w (suc j)
+      go i =
+          let o : WordOn w j (hear (i .ear) (pieceBit (WordPiece w) j)) = word-on w j (i .ear) fits k (i .in-word) in
+          record { ear = o .ear; is = rw (i .is, o .is) refl; in-word = o .in-word }
 
-word-bit : (w j : ℕ) → j < 16 → pieceBit (WordPiece w) j ≡ bit (15 - j) w
-unfolding pieceBit wordBit pick
-word-bit w j h = rw (lt-ltb j 16 h)
-
--- The reader in a group of c bits, of a run that those bits allow.
-record Reads (r : Reading) (finished : List (List ℕ)) (words : List ℕ) (v c : ℕ) : Type 0 where
-  run : ℕ
-  is : r ≡ record { finished = finished; words = words; ear = Group v c run }
-  few : run ≤ suc c
-  stop : 0 < c → odd v ≡ false → run ≡ 0
-
-module _ (finished : List (List ℕ)) (words : List ℕ) (w : ℕ) (fits : w < 65536) where
-  one-more : (r : Reading) (j : ℕ) → j < 16 → Reads r finished words (w / 2 ^ (16 - j)) j
-      → Reads (readBit r (pieceBit (WordPiece w) j)) finished words (w / 2 ^ (16 - suc j)) (suc j)
-  one-more r j h i =
-      record {
-        run = runOn (i .run) (bit (15 - j) w);
-        is = rw (i .is, word-bit w j h, in-group finished words (w / 2 ^ (16 - j)) j (i .run) (bit (15 - j) w) h (i .few), next-bit w j fits h);
-        few = omega (arith, run-le (i .run) (bit (15 - j) w), i .few);
-        stop = λ p q. run-stops (i .run) (bit (15 - j) w) (sym (last-bit w j) ∙ q);
-      }
-
-  module _ (b : Bool) where
-    word-bits : (j : ℕ) → j ≤ 16 → Reads (upTo (at (within finished words b)) (pieceBit (WordPiece w)) j) finished words (w / 2 ^ (16 - j)) j
-    unfolding upTo at
-    word-bits zero k =
-        let e : w / 65536 ≡ 0 = omega arith in
-        record { run = val b; is = rw e; few = val-le b; stop = λ p. absurd (omega arith) }
-    word-bits (suc j) k = one-more _ j k (word-bits j (omega arith))
-
-    word-within : upTo (at (within finished words b)) (pieceBit (WordPiece w)) 17 ≡ at (within finished (words ++ (w ∷ [])) (checkBit w))
-    unfolding upTo
-    word-within =
-        let i : Reads (upTo (at (within finished words b)) (pieceBit (WordPiece w)) 16) finished words (w / 1) 16 = word-bits 16 (omega arith) in
-        let e : w / 1 ≡ w = omega arith in
-        let c : pieceBit (WordPiece w) 16 ≡ checkBit w = unfold pieceBit wordBit pick in refl in
-        rw (i .is, c, e, checked finished words w (i .run) (λ q. i .stop (omega arith) (rw e q)))
+  word-within : upTo (at (within finished words b)) (pieceBit (WordPiece w)) 17 ≡ at (within finished (words ++ (w ∷ [])) (checkBit w))
+  unfolding upTo at readBit collect
+  word-within =
+      let i : Reads (upTo (at (within finished words b)) (pieceBit (WordPiece w)) 16) finished words w 16 = word-bits 16 (omega arith) in
+      rw (i .is, word-end w (i .ear) (i .in-word)) refl
 
 end-out : (finished : List (List ℕ)) (n : ℕ) → upTo (at (out finished)) (pieceBit EndPiece) n ≡ at (out finished)
 unfolding upTo at pieceBit readBit hear collect pick

@@ -67,7 +67,7 @@ pub opening : List Event
 opening = frame (0xB007 ∷ 0x8000 ∷ [])
 
 -- The run meets the premises; at its end all is sent.
-unfoldable meets : List Event → Bool
+unfoldable pub meets : List Event → Bool
 unfolding ticks frame opening val odd bit highFirst pick shift crcBit crcBits crcWord crcFrom crcOf write registerWrite rows byNumber decodeOurs raised blocking powerUpControl writeStatus writeMasked writeOf checkBit wordBit pieceBit runOn shiftIn atCheck inGroup inLost hear mineOf owedBy toCome collectSound replySound phaseSound powerUp noPlace newPlace waiting wordsOf moved freed firstUnread claimed returned written ringAfter stored done roleSound slotSound slotsBelow pieceSound earSound marksSound isUnmarked choose bitSent wordSent queueSent senderAfter advanced finished sentBy tickSender wordRead errorRead endRead wordTaken atEnd ended takenBy tickReader asksStore guard mineAfter enqueues clears forwarded forwardWord forwardBegun opened isQuiet isTransmitClear isReceiveClear isRefused withWrite registerWord dataWord wrongCrc forwardClosed crcDue plannedIn planned releasedIn clearedAway received settled concluded performed powered blockedIn same markAfter watched starvedFlags flagsSent phaseAfter controlTicked tickEnds tickHears ticked clocked reacted turned turn step planOf came accepts collects joined settle logged logBy listed acceptedIn isPower typed fair premises faults outOf next endOf lineBit soutOf powerOn allSent table resetRegs cleared powerUpFlags writeTxfflvl registersClosed faulted tickNote elapsed modeAt flagsAt controlAt placeSent writeEnds began
 meets es = premises ours from es
 

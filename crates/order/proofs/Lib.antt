@@ -1,14 +1,14 @@
 mod Ring
-mod Waiting
+pub mod Waiting
 mod Account
 mod Exact
 mod Sending
 mod Hearing
-mod Faults
-mod Frames
+pub mod Faults
+pub mod Frames
 mod Forwards
 mod Plans
-mod Steps
+pub mod Steps
 pub mod Order
 pub mod Asked
 pub mod Closed

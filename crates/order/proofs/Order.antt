@@ -20,13 +20,13 @@ use Rattle.order.proofs.Frames.{listed-kept}
 use Rattle.order.proofs.Steps.{Between, between-fresh, between-turn}
 
 module _ (l : Layout) (fits : LayoutFit l) where
-  between-step : (c : Config) (bits : List Bool) (g : Log) (e : Event) → Between c bits g → Obeys c → Fair l c e
+  pub between-step : (c : Config) (bits : List Bool) (g : Log) (e : Event) → Between c bits g → Obeys c → Fair l c e
       → Between (next l c e) (bits ++ lineBit e (outOf l c e .answer .sout)) (logged g (planOf l c e))
   unfolding next
   between-step c bits g e i o f =
       between-turn l c bits g i e _ (obeyed-turn l fits c e o) (f .typed) (f .no-fault) (f .no-loss)
 
-  between-run : (c : Config) (bits : List Bool) (g : Log) (es : List Event) → Between c bits g → Obeys c → Premises l c es
+  pub between-run : (c : Config) (bits : List Bool) (g : Log) (es : List Event) → Between c bits g → Obeys c → Premises l c es
       → Between (endOf l c es) (bits ++ soutOf l c es) (logBy l g c es)
   unfolding endOf soutOf logBy
   between-run c bits g [] i o p = rw append-nil i
@@ -34,7 +34,7 @@ module _ (l : Layout) (fits : LayoutFit l) where
       rw (← (append-assoc bits (lineBit e (outOf l c e .answer .sout)) (soutOf l (next l c e) es)))
       (between-run (next l c e) _ _ es (between-step c bits g e i o (p .0)) (step-obeys l fits c e o) (p .1))
 
-between-power : (good : Bool) (tx rx : List ℕ) → RightStores tx rx → Between (powerOn good tx rx) [] noLog
+pub between-power : (good : Bool) (tx rx : List ℕ) → RightStores tx rx → Between (powerOn good tx rx) [] noLog
 unfolding powerOn concat lengths joined
 between-power good tx rx r = between-fresh good tx rx [] [] r exact-power
 

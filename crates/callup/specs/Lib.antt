@@ -1,0 +1,2 @@
+pub mod CallUp
+pub mod Taken

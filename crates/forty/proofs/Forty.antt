@@ -1,0 +1,160 @@
+-- Each part of what was asked, by the theorem behind it. Assumes nothing.
+use mathlib.Core.Path.{_≡_, refl, ap, ap₂, sym, _∙_, subst}
+use mathlib.Core.Bool.{Bool, true, false}
+use mathlib.Core.List.{List, [], _++_}
+use Prim.Native.Nat.{ℕ, _≤_}
+use native.Mathlib.Omega.{arith}
+use lib.ListN.{length}
+use Rattle.base.specs.Pick.{pick}
+use Rattle.command.specs.Layouts.{ours}
+use Rattle.line.specs.Format.{Words}
+use Rattle.rules.specs.Sound.{sound}
+use Rattle.state.specs.declared.Queue.{Queue}
+use Rattle.events.specs.declared.Event.{Event}
+use Rattle.kept.proofs.Fits.{ours-fits}
+use Rattle.kept.proofs.Sound.{sound-facts}
+use Rattle.bridge.specs.Runs.{Config, RightStores, endOf, soutOf, powerOn}
+use Rattle.bridge.proofs.Reached.{Obeys, run-obeys, power-obeys}
+use Rattle.order.specs.Accepted.{Log, noLog, joined, logBy, listed, acceptedIn}
+use Rattle.order.specs.Premises.{Premises}
+use Rattle.order.proofs.Steps.{Between}
+use Rattle.order.proofs.Order.{between-run, between-power, all-sent}
+use Rattle.verdict.specs.Verdicts.{lastSlot, hasRoom, isTaken, isBroken}
+use Rattle.verdict.specs.declared.Verdict.the-variants.{Taken, NoRoom}
+use Rattle.verdict.proofs.Taking.{Finds, taken-facts}
+use Rattle.callup.specs.CallUp.{pairs}
+use Rattle.callup.specs.Taken.{Takes, Taken as CallTaken}
+use Rattle.callup.proofs.Frame.{logOf}
+use Rattle.callup.proofs.CallUp.{end-append, log-append, premises-append, ours-speaks, taken}
+use Rattle.board.specs.Board.{verdictOf, refusedIn, takenOf, callUpOf}
+use Rattle.board.specs.declared.Board.{Board}
+use Rattle.board.proofs.Taking.{taken-takes, takes-taken, slot-words, slot-last, slot-other}
+use Rattle.nights.proofs.Nights.{at-idle, night-shown}
+use Rattle.chain.specs.Chain.{Moment}
+use Rattle.shift.specs.Shifts.{Due, Shifting, shifting, cellsOf, firstVerdict, shiftFrom, shiftOf}
+use Rattle.shift.proofs.Lists.{dues-cells}
+use Rattle.forty.specs.Traces.{shiftEvents}
+use Rattle.forty.specs.Ends.{budgetFor, AllRight, AtRest, wordsOf, AllTaken, LineShows}
+use Rattle.forty.specs.Forty.{Whole, TakenRight, CallUpBoard}
+use Rattle.forty.proofs.Waits.{verdict-open}
+use Rattle.forty.proofs.Shifts.{Ran, shift-run}
+use Rattle.forty.proofs.Rest.{rest-in-tune, rest-settled}
+
+obeys-whole : (c : Config) → Whole c → Obeys c
+obeys-whole c w = record { rules = sound-facts (c .bridge) (w .rules) (w .eight); stores = w .stores }
+
+taken-when : (board : Board) (c : Config) (slot reading : ℕ) (ws : List ℕ) → Whole c → slot ≤ lastSlot → Takes c ws
+    → callUpOf board c slot reading ws ≡ takenOf board c slot reading ws
+unfolding callUpOf pick
+taken-when board c slot reading ws w s t = rw (takes-taken c slot ws (obeys-whole c w) s t) refl
+
+taken-only : (c : Config) (slot : ℕ) (ws : List ℕ) → Words ws → isTaken (verdictOf c slot (length ws)) ≡ true
+    → RightStores (c .tx) (c .rx) × ((sound (c .bridge) ≡ true) × ((slot ≤ lastSlot) × Takes c ws))
+taken-only c slot ws w h =
+    let f : Finds (length (c .tx)) (length (c .rx)) (c .bridge) slot (length ws) = taken-facts _ _ (c .bridge) slot (length ws) h in
+    (record { tx-is = f .tx-is; rx-is = f .rx-is }, (f .sound-record, (f .in-board, taken-takes c slot ws w h)))
+
+taken-right : (c : Config) (ws : List ℕ) → Whole c → Takes c ws → TakenRight c ws
+taken-right c ws w t =
+    let k : CallTaken ours c (logOf [] []) ws = taken ours ours-fits ours-speaks c [] ws (obeys-whole c w) t in
+    record {
+      notes = k .notes;
+      two-places = ap (λ (q : Queue). q .used) (k .queue) ∙ omega arith;
+      words-more = k .count;
+      no-frame = k .idle-frame;
+      same = k .same;
+    }
+
+refused : (board : Board) (c : Config) (slot reading : ℕ) (ws : List ℕ) → isTaken (verdictOf c slot (length ws)) ≡ false
+    → callUpOf board c slot reading ws ≡ refusedIn board c (verdictOf c slot (length ws))
+unfolding callUpOf pick
+refused board c slot reading ws h = rw h refl
+
+-- a bridge that is open is not broken
+unbroken : (t : Bool) → isBroken (pick t Taken NoRoom) ≡ false
+unfolding pick
+unbroken true = refl
+unbroken false = refl
+
+module _ (board : Board) (m : Moment) (ds : List Due) (budget : ℕ) (o : Obeys (m .at)) (r : AtRest m) (a : AllRight ds)
+    (h : budgetFor (length (m .chain)) ds ≤ budget) where
+  abbrev start : Shifting
+  start = shifting board m Taken 0 0
+
+  ran : Ran ds start (rest-in-tune m o r) (shiftFrom ds start budget) (shiftEvents ds start budget)
+  ran = shift-run ds start (rest-in-tune m o r) budget a (omega (arith, rest-settled m o r))
+
+  shift-is : shiftOf board m (cellsOf ds) budget ≡ shiftFrom ds start budget
+  unfolding shiftOf pick
+  shift-is =
+      let v : firstVerdict m ≡ pick (hasRoom (m .at .bridge) 1) Taken NoRoom
+      = verdict-open (m .at) 0 1 o (r .free) (omega arith) (omega arith) (omega arith) in
+      let b : isBroken (firstVerdict m) ≡ false = ap isBroken v ∙ unbroken (hasRoom (m .at .bridge) 1) in
+      rw b (ap (λ (x : List Due). shiftFrom x start budget) (dues-cells ds))
+
+  all-taken : AllTaken board (length (m .chain)) ds (shiftOf board m (cellsOf ds) budget)
+  all-taken =
+      rw shift-is
+      (record {
+        verdict-is = ran .verdict-is;
+        taken-is = omega (arith, ran .taken-is);
+        in-time = omega (arith, ran .in-time, rest-settled m o r);
+        board-is = ran .board-is;
+        all-sent = ran .all-sent;
+      })
+
+listed-idle : (D : List (List ℕ)) → listed (logOf D []) ≡ D
+unfolding listed joined
+listed-idle D = refl
+
+module _ (good : Bool) (tx rx : List ℕ) (before : List Event) (board : Board) (m : Moment) (ds : List Due) (budget : ℕ) (stores : RightStores tx rx)
+    (p : Premises ours (powerOn good tx rx) before) (e : m .at ≡ endOf ours (powerOn good tx rx) before) (r : AtRest m) (a : AllRight ds)
+    (h : budgetFor (length (m .chain)) ds ≤ budget) where
+  abbrev from : Config
+  from = powerOn good tx rx
+
+  abbrev during : List Event
+  during = shiftEvents ds (shifting board m Taken 0 0) budget
+
+  o : Obeys (m .at)
+  o = rw e (run-obeys ours ours-fits from before (power-obeys ours ours-fits good tx rx stores))
+
+  abbrev went : Ran ds (shifting board m Taken 0 0) (rest-in-tune m o r) (shiftFrom ds (shifting board m Taken 0 0) budget) during
+  went = ran board m ds budget o r a h
+
+  -- demand 3's premises hold of both
+  whole-premises : Premises ours from (before ++ during)
+  whole-premises = premises-append ours from before during p (subst (λ (c : Config). Premises ours c during) e (went .premises))
+
+  end-there : endOf ours from (before ++ during) ≡ shiftFrom ds (shifting board m Taken 0 0) budget .moment .at
+  end-there = end-append ours from before during ∙ ap (λ (c : Config). endOf ours c during) (sym e) ∙ went .end-is
+
+  accepted-is : acceptedIn ours from (before ++ during) ≡ acceptedIn ours from before ++ pairs (wordsOf ds)
+  unfolding acceptedIn
+  accepted-is =
+      let g : Log = logBy ours noLog from before in
+      let b : Between (endOf ours from before) (soutOf ours from before) g
+      = between-run ours ours-fits from [] noLog before (between-power good tx rx stores) (power-obeys ours ours-fits good tx rx stores) p in
+      let k : g ≡ logOf (g .closed) [] = at-idle (endOf ours from before) _ g b (rw e at (r .free .idle-frame)) in
+      let f : logBy ours noLog from (before ++ during) ≡ logOf (g .closed ++ pairs (wordsOf ds)) []
+      = log-append ours noLog from before during ∙ ap₂ (λ (x : Log) (c : Config). logBy ours x c during) k (sym e) ∙ went .log (g .closed) in
+      ap listed f ∙ listed-idle (g .closed ++ pairs (wordsOf ds))
+      ∙ ap (λ (D : List (List ℕ)). D ++ pairs (wordsOf ds)) (sym (ap listed k ∙ listed-idle (g .closed)))
+
+  line-shows : LineShows from before during ds
+  line-shows = all-sent ours ours-fits good tx rx stores (before ++ during) whole-premises (rw end-there (went .all-sent)) ∙ accepted-is
+
+pub call-up-board : CallUpBoard
+call-up-board =
+    record {
+      taken-when = taken-when;
+      taken-only = taken-only;
+      taken-right = taken-right;
+      refused = refused;
+      shows = slot-last;
+      shows-words = slot-words;
+      others-stay = slot-other;
+      forty-shown = λ good tx rx board acts s k. night-shown good tx rx s board acts k;
+      shift-ends = λ board m ds budget w r a h. all-taken board m ds budget (obeys-whole (m .at) w) r a h;
+      shift-shown = line-shows;
+    }

@@ -1,0 +1,6 @@
+pub mod Ring
+pub mod Waits
+pub mod Shifts
+pub mod Rest
+pub mod Forty
+mod Examples

@@ -1,0 +1,33 @@
+-- What a wait, an offer and a shift give to the bridge, event by event. Assumes nothing.
+use mathlib.Core.List.{List, [], _∷_, _++_}
+use Prim.Native.Nat.{ℕ, zero, suc, _-_}
+use lib.ListN.{length}
+use Rattle.base.specs.Pick.{pick}
+use Rattle.command.specs.Layouts.{ours}
+use Rattle.events.specs.declared.Event.{Event}
+use Rattle.events.specs.declared.Event.the-variants.{Tick}
+use Rattle.verdict.specs.Verdicts.{isTaken}
+use Rattle.callup.specs.CallUp.{callUp}
+use Rattle.chain.specs.Echo.{echo}
+use Rattle.chain.specs.Chain.{Moment, back, ticked}
+use Rattle.chain.specs.Waits.{met}
+use Rattle.chain.specs.declared.Goal.{Goal}
+use Rattle.chain.specs.declared.Goal.the-variants.{Room, Sent}
+use Rattle.shift.specs.Shifts.{Due, Shifting, takenAfter, nextOffer}
+
+-- the ticks of a wait, each with the bit that comes back
+unfoldable pub waitEvents : ℕ → Goal → Moment → List Event
+waitEvents zero goal m = []
+waitEvents (suc budget) goal m =
+    pick (met goal (m .at)) [] (Tick (back (m .chain) (m .oldest) (echo ours (m .at))) ∷ waitEvents budget goal (ticked m))
+
+-- and the call-up where it is taken
+unfoldable pub offerEvents : Due → Shifting → ℕ → List Event
+offerEvents d s budget =
+    waitEvents (budget - s .ticks) (Room (d .slot) (length (d .words))) (s .moment)
+    ++ pick (isTaken (nextOffer d s budget .verdict)) (callUp (d .words)) []
+
+unfoldable pub shiftEvents : List Due → Shifting → ℕ → List Event
+shiftEvents [] s budget = waitEvents (budget - s .ticks) Sent (s .moment)
+shiftEvents (d ∷ ds) s budget =
+    offerEvents d s budget ++ pick (isTaken (nextOffer d s budget .verdict)) (shiftEvents ds (takenAfter s (nextOffer d s budget)) budget) []
