@@ -1,10 +1,10 @@
 #!/usr/bin/env python3
-"""Holds tools/bench, tools/script.py and tools/status to their statuses and their words on good and bad input.
+"""Holds tools/bench, tools/script.py, tools/status and tools/board to their statuses and their words on good and bad input.
 
 tools.py    `tools: N calls as they should be`, or what went otherwise and exit status 1
 
-Nothing is built at this point of the gate: the independent program (model/), which prints what the bench program does, stands in for it, and for
-`states` what crates/states/stdout holds.
+Nothing is built at this point of the gate: the independent programs (model/), which print what the bench program and the board's do, stand in for them,
+and for `states` what crates/states/stdout holds.
 """
 import os
 import pathlib
@@ -21,9 +21,11 @@ import explain  # noqa: E402
 from make_scripts import crc16  # noqa: E402
 from pair import built_model  # noqa: E402
 
-BENCH, SCRIPT, STATUS = TOP / "tools/bench", TOP / "tools/script.py", TOP / "tools/status"
+BENCH, SCRIPT, STATUS, BOARD = TOP / "tools/bench", TOP / "tools/script.py", TOP / "tools/status", TOP / "tools/board"
 LIGHT = TOP / "examples/first-light.txt"
 LINES = (TOP / "examples/expected/first-light.out").read_bytes()
+HEAVY = TOP / "examples/nights/heavy-shift.txt"
+FORTY = (TOP / "examples/nights/expected/heavy-shift.out").read_bytes()
 HEAD = b"CWB\x00\x01"
 UP = b"0 0001 0 FFFF 1\n"
 
@@ -76,6 +78,18 @@ CALLS = [
     (STATUS, ["0400", "D1CC"], b"", 1, None, ""),
     (STATUS, ["ffff"], b"", 1, None, ""),
     (STATUS, ["4401", "0010", "0000", "0000"], b"", 0, None, ""),
+    (BOARD, [HEAVY], b"", 0, FORTY, ""),
+    (BOARD, [], HEAVY.read_bytes(), 0, FORTY, ""),
+    (BOARD, ["-"], b"\xef\xbb\xbf" + HEAVY.read_bytes().replace(b"\n", b"\r\n"), 0, FORTY, ""),
+    (BOARD, ["--help"], b"", 0, None, ""),
+    (BOARD, [], b"clear\nbell\ncall 40 1 AA00\ncall 1 1 AA00\n", 1, None,
+     "^standard input:2: expected call, .* found `bell`\nstandard input: 1 call-up refused\nstandard input: 1 call-up taken and not shown\n$"),
+    (BOARD, [], b"# nothing but a comment\n", 1, None, "^standard input: no call-ups$"),
+    (BOARD, [], b"c\x00l\x00e\x00", 1, b"", "UTF-16"),
+    (BOARD, [], b"#" * (1 << 20) + b"\n", 1, b"", "expected at most 1 MiB"),
+    (BOARD, ["nowhere"], b"", 1, b"", "nowhere: .*No such file"),
+    (BOARD, ["a", "b"], b"", 2, b"", "one FILE, not 2; see tools/board --help"),
+    (BOARD, ["-x"], b"", 2, b"", "no option -x"),
     (STATUS, [], b"", 2, b"", "one to four words and their CRC, not 0; see tools/status --help"),
     (STATUS, ["440"], b"", 2, b"", "expected four hex digits, found `440`"),
 ]
@@ -151,6 +165,7 @@ def prepared(work):
     programs = work / "programs"
     programs.mkdir()
     built_model(programs).rename(programs / "bench")
+    subprocess.check_call(["gcc", "-std=c11", "-O2", "-o", programs / "board_main", TESTS / "model/board_model.c"])
     (programs / "states").write_text("#!/bin/sh\ncat >%s\ncat %s\n" % (work / "given", TOP / "crates/states/stdout"))
     (programs / "states").chmod(0o755)
     os.environ["BENCH_BIN"] = str(programs)
@@ -198,7 +213,7 @@ def wrong(work):
             yield "%s %s: %s" % (tool.name, " ".join(map(str, arguments)) or repr(given[:20]), what)
     for what in otherwise(called(work / "bench", [LIGHT], b"", work), 0, LINES, ""):
         yield "through a symbolic link: " + what
-    for tool, arguments in ((BENCH, [LIGHT]), (BENCH, ["--help"]), (SCRIPT, [LIGHT]), (STATUS, ["0400"])):
+    for tool, arguments in ((BENCH, [LIGHT]), (BENCH, ["--help"]), (SCRIPT, [LIGHT]), (STATUS, ["0400"]), (BOARD, [HEAVY])):
         with open("/dev/full", "wb") as full:
             done = called(tool, arguments, b"", work, full)
         done.stdout = b""
@@ -229,7 +244,7 @@ def main():
     if bad:
         print(*bad, sep="\n")
         sys.exit("tools: %d not as they should be" % len(bad))
-    print("tools: %d calls as they should be" % (len(CALLS) + 8))
+    print("tools: %d calls as they should be" % (len(CALLS) + 9))
 
 
 if __name__ == "__main__":

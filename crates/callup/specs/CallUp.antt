@@ -18,12 +18,12 @@ use Rattle.events.specs.declared.Event.the-variants.{Word, Release}
 abbrev pub vsync : ℕ
 vsync = 0xAAF0
 
--- the words of a frame given to the bridge, and chip select released behind them; "No answer words are fetched" (ours)
+-- the words of a frame given to the bridge, and chip select released behind them; no answer word is fetched (ours)
 unfoldable pub given : List ℕ → List Event
 given [] = Release ∷ []
 given (w ∷ ws) = Word w ∷ given ws
 
--- "both frames": as the writer of item 1 writes them
+-- both frames, as the writer of item 1 writes them
 unfoldable pub callUp : List ℕ → List Event
 callUp ws = given (frameOf FwdWrCrc ws) ++ given (frameOf FwdWrCrc (vsync ∷ []))
 

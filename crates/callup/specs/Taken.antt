@@ -68,7 +68,7 @@ AllWrite l c (e ∷ es) = (OfHost e × NoReads (planOf l c e .deed)) × AllWrite
 abbrev pub Sixteens : List ℕ → Type 0
 Sixteens cells = (i : ℕ) → getD cells i 0 < wordEnd
 
--- what a frame leaves as it was
+-- what a frame leaves as it was: all but TX and the queue, the frame, DRDY and the watchdog's mark
 pub record Same (c d : Config) : Type 0 where
   pub mode : d .bridge .control .mode ≡ c .bridge .control .mode
   pub flags : d .bridge .control .flags ≡ c .bridge .control .flags
@@ -79,7 +79,7 @@ pub record Same (c d : Config) : Type 0 where
   pub rx : d .rx ≡ c .rx
 
 -- A taken call-up, from a configuration and a log: every note is 0, demand 3's premises hold, both commands are accepted, in order, and
--- nothing else is; two places and n + 1 words more, all else as it was.
+-- nothing else is; two places and n + 1 words more, and what `Same` names as it was.
 pub record Taken (l : Layout) (c : Config) (g : Log) (ws : List ℕ) : Type 0 where
   pub notes : AllDone l c (callUp ws)
   pub premises : Premises l c (callUp ws)

@@ -101,7 +101,11 @@ module _ (board : Board) (m : Moment) (ds : List Due) (budget : ℕ) (o : Obeys 
         in-time = omega (arith, ran .in-time, rest-settled m o r);
         board-is = ran .board-is;
         all-sent = ran .all-sent;
+        still-open = ran .there .free;
       })
+
+  given-is : endOf ours (m .at) (shiftEvents ds start budget) ≡ shiftOf board m (cellsOf ds) budget .moment .at
+  given-is = ran .end-is ∙ ap (λ (s : Shifting). s .moment .at) (sym shift-is)
 
 listed-idle : (D : List (List ℕ)) → listed (logOf D []) ≡ D
 unfolding listed joined
@@ -156,5 +160,6 @@ call-up-board =
       others-stay = slot-other;
       forty-shown = λ good tx rx board acts s k. night-shown good tx rx s board acts k;
       shift-ends = λ board m ds budget w r a h. all-taken board m ds budget (obeys-whole (m .at) w) r a h;
+      shift-given = λ board m ds budget w r a h. given-is board m ds budget (obeys-whole (m .at) w) r a h;
       shift-shown = line-shows;
     }

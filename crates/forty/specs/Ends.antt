@@ -25,7 +25,7 @@ use Rattle.shift.specs.Shifts.{Due, Shifting}
 abbrev pub ticksFor : ℕ → ℕ
 ticksFor words = 19 + 17 * words + 36
 
--- the ticks that call-ups need, with a chain that gives each bit back `delay` ticks later: for each "its cost and D"
+-- the ticks that call-ups need, with a chain that gives each bit back `delay` ticks later: for each its cost and the delay
 unfoldable pub budgetFor : ℕ → List Due → ℕ
 budgetFor delay [] = 0
 budgetFor delay (d ∷ ds) = ticksFor (length (d .words)) + delay + budgetFor delay ds
@@ -41,7 +41,7 @@ abbrev pub AllRight : List Due → Type 0
 AllRight [] = Unit {0}
 AllRight (d ∷ ds) = Right d × AllRight ds
 
--- "all flags down and NORMAL", as far as refusal 34 asks; nothing queued, nothing under way on the line or in the chain
+-- NORMAL and no flag up that refusal 34 asks about; nothing queued, nothing under way on the line or in the chain
 pub record AtRest (m : Moment) : Type 0 where
   pub free : Open (m .at)
   pub none-queued : m .at .bridge .sending .queue .used ≡ 0
@@ -59,13 +59,14 @@ unfoldable pub boardAfter : Board → List Due → Board
 boardAfter board [] = board
 boardAfter board (d ∷ ds) = boardAfter (showing board (d .slot) (d .reading) (d .words)) ds
 
--- all taken, in time, all sent, and the board shows them
+-- all taken, in time, all sent, the board shows them, and the bridge is as open as it was
 pub record AllTaken (board : Board) (delay : ℕ) (ds : List Due) (s : Shifting) : Type 0 where
   pub verdict-is : s .verdict ≡ Taken
   pub taken-is : s .taken ≡ length ds
   pub in-time : s .ticks ≤ budgetFor delay ds
   pub board-is : s .board ≡ boardAfter board ds
   pub all-sent : AllSent (s .moment .at .bridge .sending)
+  pub still-open : Open (s .moment .at)
 
 -- the line of a run and then of a shift: what was accepted before, and then each call-up's words and VSYNC, and nothing else
 abbrev pub LineShows : Config → List Event → List Event → List Due → Type 0

@@ -1,4 +1,4 @@
--- What was asked of the call-up board, in the words of 02 item 13, which stand here in quotes. Read this file from top to bottom; `proofs/Forty.antt` cites the
+-- What was asked of the call-up board: the words of 02 item 13 stand here in quotes, the rest is ours. Read this file from top to bottom; `proofs/Forty.antt` cites the
 -- theorem behind each. `callUpOf` and `shiftOf` are crates/board/specs and crates/shift/specs, and the contracts of `board::call_up` and `shift::shift` say that
 -- the code does what they say, for every input, with no `requires`. Assumes nothing.
 use mathlib.Core.Path.{_≡_}
@@ -15,7 +15,7 @@ use Rattle.rules.specs.Sound.{sound}
 use Rattle.events.specs.declared.Event.{Event}
 use Rattle.bridge.specs.Runs.{Config, RightStores, endOf, powerOn}
 use Rattle.order.specs.Premises.{Premises}
-use Rattle.verdict.specs.Verdicts.{slotCount, lastSlot, isTaken}
+use Rattle.verdict.specs.Verdicts.{slotCount, lastSlot, callUpMost, isTaken}
 use Rattle.verdict.specs.declared.Verdict.the-variants.{Taken}
 use Rattle.callup.specs.CallUp.{callUp}
 use Rattle.callup.specs.Taken.{Takes, AllDone, Same}
@@ -33,7 +33,7 @@ pub record Whole (c : Config) : Type 0 where
   pub rules : sound (c .bridge) ≡ true
   pub eight : length (c .bridge .sending .queue .places) ≡ places
 
--- What a call-up that is taken leaves: "both frames go through `step`, every note 0, two places and n + 1 words more", all else as it was.
+-- What a call-up that is taken leaves: every note of its two frames is 0; two places and n + 1 words more, and what `Same` names as it was.
 pub record TakenRight (c : Config) (ws : List ℕ) : Type 0 where
   pub notes : AllDone ours c (callUp ws)
   pub two-places : endOf ours c (callUp ws) .bridge .sending .queue .used ≡ c .bridge .sending .queue .used + 2
@@ -55,7 +55,7 @@ pub record CallUpBoard : Type 0 where
   -- "a slot shows its last": reading and words; the others stay
   pub shows : (board : Board) (slot reading : ℕ) (ws : List ℕ) → length (board .slots) ≡ slotCount → slot ≤ lastSlot
       → getD (showing board slot reading ws .slots) slot emptySlot ≡ slotOf reading ws
-  pub shows-words : (reading : ℕ) (ws : List ℕ) → length ws ≤ 30 → take (slotOf reading ws .count) (slotOf reading ws .words) ≡ ws
+  pub shows-words : (reading : ℕ) (ws : List ℕ) → length ws ≤ callUpMost → take (slotOf reading ws .count) (slotOf reading ws .words) ≡ ws
   pub others-stay : (board : Board) (slot reading : ℕ) (ws : List ℕ) (k : ℕ) → k ≢ slot
       → getD (showing board slot reading ws .slots) k emptySlot ≡ getD (board .slots) k emptySlot
   -- FORTY DUE, FORTY SHOWN. Over the run of demand 3 with call-ups among the events, the premises asked of the other events alone: what the line shows is what is
@@ -67,6 +67,11 @@ pub record CallUpBoard : Type 0 where
   -- budget that their words and the delay give.
   pub shift-ends : (board : Board) (m : Moment) (ds : List Due) (budget : ℕ) → Whole (m .at) → AtRest m → AllRight ds
       → budgetFor (length (m .chain)) ds ≤ budget → AllTaken board (length (m .chain)) ds (shiftOf board m (cellsOf ds) budget)
+  -- these are the events that it gave to the bridge, and
+  pub shift-given : (board : Board) (m : Moment) (ds : List Due) (budget : ℕ) → Whole (m .at) → AtRest m → AllRight ds
+      → budgetFor (length (m .chain)) ds ≤ budget
+      → endOf ours (m .at) (shiftEvents ds (shifting board m Taken 0 0) budget) ≡ shiftOf board m (cellsOf ds) budget .moment .at
+  -- this is the line
   pub shift-shown : (good : Bool) (tx rx : List ℕ) (before : List Event) (board : Board) (m : Moment) (ds : List Due) (budget : ℕ) → RightStores tx rx
       → Premises ours (powerOn good tx rx) before → m .at ≡ endOf ours (powerOn good tx rx) before → AtRest m → AllRight ds
       → budgetFor (length (m .chain)) ds ≤ budget

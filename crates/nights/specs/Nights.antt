@@ -47,16 +47,12 @@ unfoldable pub givenBy : Yard → Act → List Event
 givenBy y (event e) = e ∷ []
 givenBy y (call slot reading ws) = pick (takes y slot ws) (callUp ws) []
 
--- the events of a night, and what it leaves
+-- the events of a night
 unfoldable pub eventsIn : Yard → List Act → List Event
 eventsIn y [] = []
 eventsIn y (a ∷ acts) = givenBy y a ++ eventsIn (actOn y a) acts
 
-unfoldable pub yardAfter : Yard → List Act → Yard
-yardAfter y [] = y
-yardAfter y (a ∷ acts) = yardAfter (actOn y a) acts
-
--- the words of the call-ups taken, "in the order taken"
+-- the words of the call-ups taken, in the order taken
 unfoldable pub takenBy : Yard → Act → List (List ℕ)
 takenBy y (event e) = []
 takenBy y (call slot reading ws) = pick (takes y slot ws) (ws ∷ []) []
@@ -95,6 +91,6 @@ pub record Shown (good : Bool) (tx rx : List ℕ) (board : Board) (acts : List A
   pub list-is :
       acceptedIn ours (powerOn good tx rx) (eventsIn (yard board (powerOn good tx rx)) acts)
       ≡ listed (logIn noLog (yard board (powerOn good tx rx)) acts)
-  -- where nothing else is queued, that is "each taken call-up's words and then VSYNC"
+  -- where nothing else is queued, that is each taken call-up's words and then VSYNC
   pub pairs-are : Quiet (yard board (powerOn good tx rx)) acts
       → acceptedIn ours (powerOn good tx rx) (eventsIn (yard board (powerOn good tx rx)) acts) ≡ pairs (takenIn (yard board (powerOn good tx rx)) acts)

@@ -15,6 +15,8 @@ pub use text::OTHER;
 pub use text::Text;
 pub use text::byte;
 pub use text::find;
+pub use text::number;
+pub use text::which;
 pub use text::words_end;
 
 // Why a line is wrong, in the order of the texts of `frames_main::reasons`.

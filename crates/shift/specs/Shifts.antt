@@ -108,7 +108,7 @@ shifted r tx rx chain = record {
 abbrev pub shifting : Board → Moment → Verdict → ℕ → ℕ → Shifting
 shifting board m v taken ticks = record { board = board; moment = m; verdict = v; taken = taken; ticks = ticks }
 
--- after the last call-up: "all shown"
+-- after the last call-up: sent as far as the budget reaches
 abbrev pub sentAfter : Shifting → Waiting → Shifting
 sentAfter s w = shifting (s .board) (w .moment) Taken (s .taken) (s .ticks + w .ticks)
 
