@@ -2,7 +2,7 @@
 use mathlib.Core.Path.{_≡_}
 use mathlib.Core.Bool.{true, false}
 use mathlib.Core.List.{List, [], _∷_, _++_}
-use Prim.Native.Nat.{ℕ, _≤_, _<_}
+use Prim.Native.Nat.{ℕ, _+_, _*_, _≤_, _<_}
 use lib.ListN.{length}
 use Rattle.base.specs.Bits.{wordEnd}
 use Rattle.command.specs.Layouts.{Layout}
@@ -26,6 +26,10 @@ given (w ∷ ws) = Word w ∷ given ws
 -- both frames, as the writer of item 1 writes them
 unfoldable pub callUp : List ℕ → List Event
 callUp ws = given (frameOf FwdWrCrc ws) ++ given (frameOf FwdWrCrc (vsync ∷ []))
+
+-- the ticks of a call-up: "19 + 17 x words", and 36 for its VSYNC. 01 The line, "Draining"
+abbrev pub ticksFor : ℕ → ℕ
+ticksFor words = 19 + 17 * words + 36
 
 -- what the line shows of call-ups: the words of each, and then VSYNC
 unfoldable pub pairs : List (List ℕ) → List (List ℕ)

@@ -19,14 +19,10 @@ use Rattle.bridge.specs.Runs.{Config, endOf}
 use Rattle.bridge.proofs.Reached.{Obeys}
 use Rattle.order.specs.Accepted.{Log}
 use Rattle.order.proofs.Waiting.{QueueOk, waiting-push, queue-push}
-use Rattle.callup.specs.CallUp.{callUp}
+use Rattle.callup.specs.CallUp.{callUp, ticksFor}
 use Rattle.callup.specs.Taken.{Takes, Taken}
 use Rattle.echoes.proofs.Counts.{unreadBit, unread, unread-same}
 use Rattle.echoes.proofs.Ticks.{Tuned}
-
--- "19 + 17 x words" for the call-up, and 36 for its VSYNC. 01 The line, "Draining"
-abbrev pub ticksFor : ℕ → ℕ
-ticksFor n = 19 + 17 * n + 36
 
 queue-ok : (c : Config) → Obeys c → QueueOk (c .bridge .sending .queue)
 queue-ok c o = record { order = o .rules .sending .queue .order; most = o .rules .sending .queue .most; eight = o .rules .sending .eight }

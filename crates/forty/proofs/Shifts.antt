@@ -20,7 +20,7 @@ use Rattle.order.specs.Accepted.{Log, logBy}
 use Rattle.order.specs.Premises.{Premises}
 use Rattle.verdict.specs.Verdicts.{lastSlot, callUpMost, hasRoom, isNoRoom}
 use Rattle.verdict.specs.declared.Verdict.the-variants.{Taken, NoRoom}
-use Rattle.callup.specs.CallUp.{vsync, callUp, pairs}
+use Rattle.callup.specs.CallUp.{vsync, callUp, pairs, ticksFor}
 use Rattle.callup.specs.Taken.{Open, Takes, Taken as CallTaken}
 use Rattle.callup.proofs.Frame.{logOf}
 use Rattle.callup.proofs.CallUp.{end-append, log-append, premises-append, ours-speaks, taken}
@@ -34,7 +34,7 @@ use Rattle.chain.specs.Waits.{met, Waiting, waiting, waitFrom}
 use Rattle.chain.specs.declared.Goal.the-variants.{Room, Sent}
 use Rattle.shift.specs.Shifts.{Due, Shifting, offerOf, nextOffer, shiftFrom}
 use Rattle.forty.specs.Traces.{waitEvents, offerEvents, shiftEvents}
-use Rattle.forty.specs.Ends.{ticksFor, budgetFor, Right, AllRight, wordsOf, boardAfter}
+use Rattle.forty.specs.Ends.{budgetFor, Right, AllRight, wordsOf, boardAfter}
 use Rattle.forty.proofs.Ring.{under}
 use Rattle.forty.proofs.Waits.{InTune, settling, Waited, verdict-open, sure-room, sure-sent, wait-run}
 

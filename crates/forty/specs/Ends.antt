@@ -2,7 +2,7 @@
 use mathlib.Core.Path.{_≡_}
 use mathlib.Core.Bool.{true}
 use mathlib.Core.List.{List, [], _∷_, _++_}
-use Prim.Native.Nat.{ℕ, _+_, _*_, _≤_}
+use Prim.Native.Nat.{ℕ, _+_, _≤_}
 use lib.ListN.{length, replicate}
 use Rattle.line.specs.Format.{Words}
 use Rattle.line.specs.declared.Ear.the-variants.{Quiet}
@@ -14,16 +14,12 @@ use Rattle.bridge.specs.Runs.{Config, soutOf, AllSent}
 use Rattle.order.specs.Accepted.{acceptedIn}
 use Rattle.verdict.specs.Verdicts.{lastSlot, callUpMost}
 use Rattle.verdict.specs.declared.Verdict.the-variants.{Taken}
-use Rattle.callup.specs.CallUp.{pairs}
+use Rattle.callup.specs.CallUp.{pairs, ticksFor}
 use Rattle.callup.specs.Taken.{Open, Sixteens}
 use Rattle.board.specs.Board.{showing}
 use Rattle.board.specs.declared.Board.{Board}
 use Rattle.chain.specs.Chain.{Moment}
 use Rattle.shift.specs.Shifts.{Due, Shifting}
-
--- "19 + 17 x words" for a call-up, and 36 for its VSYNC. 01 The line, "Draining"
-abbrev pub ticksFor : ℕ → ℕ
-ticksFor words = 19 + 17 * words + 36
 
 -- the ticks that call-ups need, with a chain that gives each bit back `delay` ticks later: for each its cost and the delay
 unfoldable pub budgetFor : ℕ → List Due → ℕ
