@@ -7,7 +7,7 @@ Each change is made in a copy, compiled without its proof and with the compiler'
 examples, the guide's texts, the texts of tests/edges, the scripts of tests/broken.py and the random scripts of the gate (tests/random_scripts.py), all by
 the bench program against the independent program; then every program of the gate against its stored output, and the filter of host frames on
 orders at their limits (tests/frames_text.py). Told: another byte, another exit status, or no end. Every crate stands below the bench program but
-`drain` and `frames`; a change is run only by programs whose code has its crate.
+`drain`, `frames` and those of the call-up board; a change is run only by programs whose code has its crate.
 Where no run can tell a change, the list says why; exit status 1 where a change is not told and has no reason, or is told and has one.
 """
 import concurrent.futures

@@ -14,7 +14,7 @@ NOT_RUN = "not run"
 HEAD = """\
 # Small wrong changes
 
-Each changes one place of the code of the bridge or of the host frames and leaves the rest: another operand, constant, order or branch. The list is
+Each changes one place of the code of the bridge, of the host frames or of the call-up board and leaves the rest: another operand, constant, order or branch. The list is
 `tests/mutation/changes.tsv`. Each has two verdicts, which know nothing of each other:
 
 - **The prover's.** `refused`: the code no longer meets its contract by the proof that stands. This does not tell wrong from merely unfit: a
