@@ -38,6 +38,6 @@ waitOf (suc budget) goal w =
     pick (met goal (w .moment .at)) w
     (waitOf budget goal (waiting (ticked (w .moment)) (w .ticks + 1) (echo ours (w .moment .at))))
 
--- from the start; before the first tick the line is idle
+-- from the start; where no tick is made the bit told is a 1
 abbrev pub waitFrom : ℕ → Goal → Moment → Waiting
 waitFrom budget goal m = waitOf budget goal (waiting m 0 true)

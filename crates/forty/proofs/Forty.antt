@@ -4,8 +4,10 @@ use mathlib.Core.Bool.{Bool, true, false}
 use mathlib.Core.List.{List, [], _++_}
 use Prim.Native.Nat.{ℕ, _≤_}
 use native.Mathlib.Omega.{arith}
+use lib.Dec.{ltb, eqb}
 use lib.ListN.{length}
-use Rattle.base.specs.Pick.{pick}
+use borrow.Author.Tests.{eq-eqb, eqb-true, le-ltb, lt-ltb, ne-eqb}
+use Rattle.base.specs.Pick.{pick, pick-keeps}
 use Rattle.command.specs.Layouts.{ours}
 use Rattle.line.specs.Format.{Words}
 use Rattle.rules.specs.Sound.{sound}
@@ -16,17 +18,19 @@ use Rattle.kept.proofs.Sound.{sound-facts}
 use Rattle.bridge.specs.Runs.{Config, RightStores, endOf, soutOf, powerOn}
 use Rattle.bridge.proofs.Reached.{Obeys, run-obeys, power-obeys}
 use Rattle.order.specs.Accepted.{Log, noLog, joined, logBy, listed, acceptedIn}
+use Rattle.order.specs.Exactly.{Whole as WholeLine}
 use Rattle.order.specs.Premises.{Premises}
 use Rattle.order.proofs.Steps.{Between}
-use Rattle.order.proofs.Order.{between-run, between-power, all-sent}
-use Rattle.verdict.specs.Verdicts.{lastSlot, hasRoom, isTaken, isBroken}
-use Rattle.verdict.specs.declared.Verdict.the-variants.{Taken, NoRoom}
+use Rattle.order.proofs.Order.{between-run, between-power, exactly-all, all-sent}
+use Rattle.verdict.specs.Verdicts.{lastSlot, callUpMost, hasRoom, roomVerdict, verdictBy, isTaken, isBroken}
+use Rattle.verdict.specs.declared.Verdict.{Verdict}
+use Rattle.verdict.specs.declared.Verdict.the-variants.{Taken, WrongStores, BrokenRecord, NoSlot, WrongLength, NoRoom}
 use Rattle.verdict.proofs.Taking.{Finds, taken-facts}
-use Rattle.callup.specs.CallUp.{pairs}
+use Rattle.callup.specs.CallUp.{callUp, pairs}
 use Rattle.callup.specs.Taken.{Takes, Taken as CallTaken}
 use Rattle.callup.proofs.Frame.{logOf}
 use Rattle.callup.proofs.CallUp.{end-append, log-append, premises-append, ours-speaks, taken}
-use Rattle.board.specs.Board.{verdictOf, refusedIn, takenOf, callUpOf}
+use Rattle.board.specs.Board.{called, verdictOf, refusedIn, takenOf, callUpOf, slotOf, showing}
 use Rattle.board.specs.declared.Board.{Board}
 use Rattle.board.proofs.Taking.{taken-takes, takes-taken, slot-words, slot-last, slot-other}
 use Rattle.nights.proofs.Nights.{at-idle, night-shown}
@@ -35,17 +39,20 @@ use Rattle.shift.specs.Shifts.{Due, Shifting, shifting, cellsOf, firstVerdict, 
 use Rattle.shift.proofs.Lists.{dues-cells}
 use Rattle.forty.specs.Traces.{shiftEvents}
 use Rattle.forty.specs.Ends.{budgetFor, AllRight, AtRest, wordsOf, AllTaken, LineShows}
-use Rattle.forty.specs.Forty.{Whole, TakenRight, CallUpBoard}
+use Rattle.forty.specs.Forty.{Whole, TakenRight, InOrder, CallUpBoard}
 use Rattle.forty.proofs.Waits.{verdict-open}
 use Rattle.forty.proofs.Shifts.{Ran, shift-run}
+use Rattle.forty.proofs.Counting.{gives-back, shift-counted, shift-given, ticks-given}
 use Rattle.forty.proofs.Rest.{rest-in-tune, rest-settled}
 
 obeys-whole : (c : Config) → Whole c → Obeys c
 obeys-whole c w = record { rules = sound-facts (c .bridge) (w .rules) (w .eight); stores = w .stores }
 
 taken-when : (board : Board) (c : Config) (slot reading : ℕ) (ws : List ℕ) → Whole c → slot ≤ lastSlot → Takes c ws
-    → callUpOf board c slot reading ws ≡ takenOf board c slot reading ws
-unfolding callUpOf pick
+    → callUpOf board c slot reading ws
+    ≡ called (record { board = showing board slot reading ws; bridge = endOf ours c (callUp ws) .bridge; verdict = Taken }) (endOf ours c (callUp ws) .tx)
+    (endOf ours c (callUp ws) .rx)
+unfolding callUpOf takenOf pick
 taken-when board c slot reading ws w s t = rw (takes-taken c slot ws (obeys-whole c w) s t) refl
 
 taken-only : (c : Config) (slot : ℕ) (ws : List ℕ) → Words ws → isTaken (verdictOf c slot (length ws)) ≡ true
@@ -70,6 +77,46 @@ refused : (board : Board) (c : Config) (slot reading : ℕ) (ws : List ℕ) → 
 unfolding callUpOf pick
 refused board c slot reading ws h = rw h refl
 
+-- One refusal after the other.
+module _ (c : Config) (slot n : ℕ) where
+  wrong-stores : (RightStores (c .tx) (c .rx) → ⊥) → verdictOf c slot n ≡ WrongStores
+  unfolding verdictBy
+  wrong-stores h =
+      pick-keeps (λ (v : Verdict). v ≡ WrongStores) (eqb (length (c .tx)) 512) _ _
+      (λ t. pick-keeps (λ (v : Verdict). v ≡ WrongStores) (eqb (length (c .rx)) 256) _ _
+      (λ r. absurd (h (record { tx-is = eqb-true _ _ t; rx-is = eqb-true _ _ r }))) (λ r. refl)) (λ t. refl)
+
+  broken-record : RightStores (c .tx) (c .rx) → sound (c .bridge) ≡ false → verdictOf c slot n ≡ BrokenRecord
+  unfolding verdictBy pick
+  broken-record s h = rw (eq-eqb (length (c .tx)) 512 (s .tx-is), eq-eqb (length (c .rx)) 256 (s .rx-is), h) refl
+
+  -- neither of the two
+  past-notes : Whole c → verdictOf c slot n ≡ pick (ltb lastSlot slot) NoSlot (pick (eqb n 0) WrongLength (pick (ltb callUpMost n) WrongLength (roomVerdict (c .bridge) n)))
+  unfolding verdictBy pick
+  past-notes w = rw (eq-eqb (length (c .tx)) 512 (w .stores .tx-is), eq-eqb (length (c .rx)) 256 (w .stores .rx-is), w .rules) refl
+
+  in-order : InOrder c slot n
+  unfolding roomVerdict pick
+  in-order =
+      record {
+        wrong-stores = wrong-stores;
+        broken-record = broken-record;
+        no-slot = λ w s. past-notes w ∙ rw (lt-ltb 39 slot s) refl;
+        no-words = λ w s z. past-notes w ∙ rw (le-ltb 39 slot s, eq-eqb n 0 z) refl;
+        many-words = λ w s z. past-notes w ∙ rw (le-ltb 39 slot s, ne-eqb n 0 (λ e. omega arith), lt-ltb 30 n z) refl;
+        not-ready = λ w s a b r. past-notes w ∙ rw (le-ltb 39 slot s, ne-eqb n 0 (λ e. omega arith), le-ltb 30 n b, r) refl;
+        no-room = λ w s a b r f. past-notes w ∙ rw (le-ltb 39 slot s, ne-eqb n 0 (λ e. omega arith), le-ltb 30 n b, r, f) refl;
+      }
+
+shows-reading : (reading : ℕ) (ws : List ℕ) → (slotOf reading ws .reading ≡ reading) × (slotOf reading ws .count ≡ length ws)
+unfolding slotOf
+shows-reading reading ws = (refl, refl)
+
+shift-is : (board : Board) (m : Moment) (ds : List Due) (budget : ℕ) → isBroken (verdictOf (m .at) 0 1) ≡ false
+    → shiftOf board m (cellsOf ds) budget ≡ shiftFrom ds (shifting board m Taken 0 0) budget
+unfolding shiftOf pick
+shift-is board m ds budget b = rw b (ap (λ (x : List Due). shiftFrom x (shifting board m Taken 0 0) budget) (dues-cells ds))
+
 -- a bridge that is open is not broken
 unbroken : (t : Bool) → isBroken (pick t Taken NoRoom) ≡ false
 unfolding pick
@@ -84,17 +131,15 @@ module _ (board : Board) (m : Moment) (ds : List Due) (budget : ℕ) (o : Obeys 
   ran : Ran ds start (rest-in-tune m o r) (shiftFrom ds start budget) (shiftEvents ds start budget)
   ran = shift-run ds start (rest-in-tune m o r) budget a (omega (arith, rest-settled m o r))
 
-  shift-is : shiftOf board m (cellsOf ds) budget ≡ shiftFrom ds start budget
-  unfolding shiftOf pick
-  shift-is =
+  sure : isBroken (firstVerdict m) ≡ false
+  sure =
       let v : firstVerdict m ≡ pick (hasRoom (m .at .bridge) 1) Taken NoRoom
       = verdict-open (m .at) 0 1 o (r .free) (omega arith) (omega arith) (omega arith) in
-      let b : isBroken (firstVerdict m) ≡ false = ap isBroken v ∙ unbroken (hasRoom (m .at .bridge) 1) in
-      rw b (ap (λ (x : List Due). shiftFrom x start budget) (dues-cells ds))
+      ap isBroken v ∙ unbroken (hasRoom (m .at .bridge) 1)
 
   all-taken : AllTaken board (length (m .chain)) ds (shiftOf board m (cellsOf ds) budget)
   all-taken =
-      rw shift-is
+      rw (shift-is board m ds budget sure)
       (record {
         verdict-is = ran .verdict-is;
         taken-is = omega (arith, ran .taken-is);
@@ -103,9 +148,6 @@ module _ (board : Board) (m : Moment) (ds : List Due) (budget : ℕ) (o : Obeys 
         all-sent = ran .all-sent;
         still-open = ran .there .free;
       })
-
-  given-is : endOf ours (m .at) (shiftEvents ds start budget) ≡ shiftOf board m (cellsOf ds) budget .moment .at
-  given-is = ran .end-is ∙ ap (λ (s : Shifting). s .moment .at) (sym shift-is)
 
 listed-idle : (D : List (List ℕ)) → listed (logOf D []) ≡ D
 unfolding listed joined
@@ -145,6 +187,11 @@ module _ (good : Bool) (tx rx : List ℕ) (before : List Event) (board : Board) 
       ap listed f ∙ listed-idle (g .closed ++ pairs (wordsOf ds))
       ∙ ap (λ (D : List (List ℕ)). D ++ pairs (wordsOf ds)) (sym (ap listed k ∙ listed-idle (g .closed)))
 
+  line-exact : WholeLine (soutOf ours from (before ++ during)) (acceptedIn ours from before ++ pairs (wordsOf ds))
+  line-exact =
+      subst (λ (A : List (List ℕ)). WholeLine (soutOf ours from (before ++ during)) A) accepted-is
+      (exactly-all ours ours-fits good tx rx stores (before ++ during) whole-premises (rw end-there (went .all-sent)))
+
   line-shows : LineShows from before during ds
   line-shows = all-sent ours ours-fits good tx rx stores (before ++ during) whole-premises (rw end-there (went .all-sent)) ∙ accepted-is
 
@@ -154,12 +201,19 @@ call-up-board =
       taken-when = taken-when;
       taken-only = taken-only;
       taken-right = taken-right;
+      in-order = in-order;
       refused = refused;
       shows = slot-last;
+      shows-reading = shows-reading;
       shows-words = slot-words;
       others-stay = slot-other;
       forty-shown = λ good tx rx board acts s k. night-shown good tx rx s board acts k;
+      gives-back = gives-back;
+      shift-given = shift-given;
+      shift-ticks = ticks-given;
+      shift-counted = shift-counted;
+      shift-is = shift-is;
       shift-ends = λ board m ds budget w r a h. all-taken board m ds budget (obeys-whole (m .at) w) r a h;
-      shift-given = λ board m ds budget w r a h. given-is board m ds budget (obeys-whole (m .at) w) r a h;
       shift-shown = line-shows;
+      shift-exact = line-exact;
     }

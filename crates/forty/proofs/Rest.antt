@@ -22,7 +22,7 @@ use Rattle.echoes.proofs.Ticks.{Tuned, send-rules}
 use Rattle.echoes.proofs.Settling.{toSettle}
 use Rattle.chain.specs.Chain.{Moment}
 use Rattle.forty.specs.Ends.{AtRest}
-use Rattle.forty.proofs.Ring.{under}
+use Rattle.forty.specs.Traces.{under}
 use Rattle.forty.proofs.Waits.{InTune, settling}
 
 -- bits that are all 1

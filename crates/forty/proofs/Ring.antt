@@ -14,13 +14,10 @@ use borrow.Author.Tests.{ne-eqb}
 use Rattle.base.specs.Pick.{pick}
 use Rattle.chain.specs.Chain.{back, filled, onward}
 use Rattle.echoes.proofs.Settling.{front, behind}
+use Rattle.forty.specs.Traces.{under}
 
 abbrev from : List Bool → ℕ → List Bool
 from cells i = drop i cells ++ take i cells
-
-unfoldable pub under : List Bool → ℕ → List Bool
-under [] oldest = []
-under (x ∷ xs) oldest = from (x ∷ xs) (oldest % length (x ∷ xs))
 
 -- a cell filled, and the place moved on
 module _ (cells : List Bool) (i : ℕ) (b : Bool) (h : i < length cells) where

@@ -33,9 +33,8 @@ use Rattle.chain.specs.Chain.{Moment}
 use Rattle.chain.specs.Waits.{met, Waiting, waiting, waitFrom}
 use Rattle.chain.specs.declared.Goal.the-variants.{Room, Sent}
 use Rattle.shift.specs.Shifts.{Due, Shifting, offerOf, nextOffer, shiftFrom}
-use Rattle.forty.specs.Traces.{waitEvents, offerEvents, shiftEvents}
+use Rattle.forty.specs.Traces.{waitEvents, offerEvents, shiftEvents, under}
 use Rattle.forty.specs.Ends.{budgetFor, Right, AllRight, wordsOf, boardAfter}
-use Rattle.forty.proofs.Ring.{under}
 use Rattle.forty.proofs.Waits.{InTune, settling, Waited, verdict-open, sure-room, sure-sent, wait-run}
 
 -- what is still to settle with a call-up more

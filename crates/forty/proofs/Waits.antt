@@ -32,8 +32,8 @@ use Rattle.chain.specs.Chain.{Moment, back, filled, onward, ticked}
 use Rattle.chain.specs.Waits.{met, Waiting, waiting, waitOf}
 use Rattle.chain.specs.declared.Goal.{Goal}
 use Rattle.chain.specs.declared.Goal.the-variants.{Room, Sent}
-use Rattle.forty.specs.Traces.{waitEvents}
-use Rattle.forty.proofs.Ring.{under, under-front, under-behind, length-under}
+use Rattle.forty.specs.Traces.{waitEvents, under}
+use Rattle.forty.proofs.Ring.{under-front, under-behind, length-under}
 
 -- a moment in tune, on an open bridge
 pub record InTune (m : Moment) : Type 0 where

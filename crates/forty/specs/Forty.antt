@@ -3,9 +3,9 @@
 -- the code does what they say, for every input, with no `requires`. Assumes nothing.
 use mathlib.Core.Path.{_≡_}
 use mathlib.Core.Bool.{Bool, true, false}
-use mathlib.Core.List.{List}
+use mathlib.Core.List.{List, [], _∷_, _++_}
 use mathlib.Core.Logic.{_≢_}
-use Prim.Native.Nat.{ℕ, _+_, _≤_}
+use Prim.Native.Nat.{ℕ, _+_, _≤_, _<_}
 use lib.ListN.{length, getD, take}
 use Rattle.command.specs.Layouts.{ours}
 use Rattle.line.specs.Format.{Words}
@@ -13,19 +13,22 @@ use Rattle.state.specs.Queue.{places}
 use Rattle.state.specs.declared.Phase.the-variants.{Idle}
 use Rattle.rules.specs.Sound.{sound}
 use Rattle.events.specs.declared.Event.{Event}
-use Rattle.bridge.specs.Runs.{Config, RightStores, endOf, powerOn}
+use Rattle.bridge.specs.Runs.{Config, RightStores, endOf, soutOf, powerOn}
+use Rattle.order.specs.Accepted.{acceptedIn}
+use Rattle.order.specs.Exactly.{Whole as WholeLine}
 use Rattle.order.specs.Premises.{Premises}
-use Rattle.verdict.specs.Verdicts.{slotCount, lastSlot, callUpMost, isTaken}
-use Rattle.verdict.specs.declared.Verdict.the-variants.{Taken}
-use Rattle.callup.specs.CallUp.{callUp}
+use Rattle.verdict.specs.Verdicts.{slotCount, lastSlot, callUpMost, isReady, hasRoom, isTaken, isBroken}
+use Rattle.verdict.specs.declared.Verdict.the-variants.{Taken, WrongStores, BrokenRecord, NoSlot, WrongLength, NotReady, NoRoom}
+use Rattle.callup.specs.CallUp.{callUp, pairs}
 use Rattle.callup.specs.Taken.{Takes, AllDone, Same}
-use Rattle.board.specs.Board.{verdictOf, refusedIn, takenOf, callUpOf, slotOf, emptySlot, showing}
+use Rattle.board.specs.Board.{called, verdictOf, callUpOf, slotOf, emptySlot, showing}
 use Rattle.board.specs.declared.Board.{Board}
 use Rattle.nights.specs.Nights.{Act, yard, KeptBy, Shown}
-use Rattle.chain.specs.Chain.{Moment}
-use Rattle.shift.specs.Shifts.{Due, shifting, cellsOf, shiftOf}
-use Rattle.forty.specs.Traces.{shiftEvents}
-use Rattle.forty.specs.Ends.{budgetFor, AllRight, AtRest, AllTaken, LineShows}
+use Rattle.chain.specs.Chain.{Moment, ticked}
+use Rattle.chain.specs.Echo.{echo}
+use Rattle.shift.specs.Shifts.{Due, Shifting, shifting, cellsOf, shiftFrom, shiftOf}
+use Rattle.forty.specs.Traces.{underWay, sinAt, shiftEvents, ticksIn}
+use Rattle.forty.specs.Ends.{budgetFor, AllRight, AtRest, wordsOf, boardAfter, AllTaken, LineShows}
 
 -- neither note 1 nor 2 is due. The code's type has an array of eight places.
 pub record Whole (c : Config) : Type 0 where
@@ -41,20 +44,42 @@ pub record TakenRight (c : Config) (ws : List ℕ) : Type 0 where
   pub no-frame : endOf ours c (callUp ws) .bridge .frame .phase ≡ Idle
   pub same : Same c (endOf ours c (callUp ws))
 
+-- the first refusal that is due, in 02's order; notes 1 and 2 come before
+pub record InOrder (c : Config) (slot n : ℕ) : Type 0 where
+  pub wrong-stores : (RightStores (c .tx) (c .rx) → ⊥) → verdictOf c slot n ≡ WrongStores
+  pub broken-record : RightStores (c .tx) (c .rx) → sound (c .bridge) ≡ false → verdictOf c slot n ≡ BrokenRecord
+  pub no-slot : Whole c → lastSlot < slot → verdictOf c slot n ≡ NoSlot
+  pub no-words : Whole c → slot ≤ lastSlot → n ≡ 0 → verdictOf c slot n ≡ WrongLength
+  pub many-words : Whole c → slot ≤ lastSlot → callUpMost < n → verdictOf c slot n ≡ WrongLength
+  pub not-ready : Whole c → slot ≤ lastSlot → 1 ≤ n → n ≤ callUpMost → isReady (c .bridge) ≡ false → verdictOf c slot n ≡ NotReady
+  pub no-room : Whole c → slot ≤ lastSlot → 1 ≤ n → n ≤ callUpMost → isReady (c .bridge) ≡ true → hasRoom (c .bridge) n ≡ false
+      → verdictOf c slot n ≡ NoRoom
+
+-- what a shift tells of itself, whatever the list, the chain and the budget: the first so many were taken, and the board shows these
+pub record Counted (board : Board) (ds : List Due) (budget : ℕ) (s : Shifting) : Type 0 where
+  pub no-more : s .taken ≤ length ds
+  pub board-is : s .board ≡ boardAfter board (take (s .taken) ds)
+  pub all-of-them : s .verdict ≡ Taken → s .taken ≡ length ds
+  pub in-budget : s .ticks ≤ budget
+
 pub record CallUpBoard : Type 0 where
   -- "A call-up is taken only when the bridge has two places free and room in TX for its words and the VSYNC, and any call-up that finds these, with no refusal
   -- below before it, is taken."
   pub taken-when : (board : Board) (c : Config) (slot reading : ℕ) (ws : List ℕ) → Whole c → slot ≤ lastSlot → Takes c ws
-      → callUpOf board c slot reading ws ≡ takenOf board c slot reading ws
+      → callUpOf board c slot reading ws
+      ≡ called (record { board = showing board slot reading ws; bridge = endOf ours c (callUp ws) .bridge; verdict = Taken }) (endOf ours c (callUp ws) .tx)
+      (endOf ours c (callUp ws) .rx)
   pub taken-only : (c : Config) (slot : ℕ) (ws : List ℕ) → Words ws → isTaken (verdictOf c slot (length ws)) ≡ true
       → RightStores (c .tx) (c .rx) × ((sound (c .bridge) ≡ true) × ((slot ≤ lastSlot) × Takes c ws))
   pub taken-right : (c : Config) (ws : List ℕ) → Whole c → Takes c ws → TakenRight c ws
-  -- ".. board and bridge unchanged", and the stores
+  -- "Refusals: 32 slot over 39, 33 no words or over 30, 34 .., 35 no room, in that order and after notes 1 and 2, board and bridge unchanged", and the stores
+  pub in-order : (c : Config) (slot n : ℕ) → InOrder c slot n
   pub refused : (board : Board) (c : Config) (slot reading : ℕ) (ws : List ℕ) → isTaken (verdictOf c slot (length ws)) ≡ false
-      → callUpOf board c slot reading ws ≡ refusedIn board c (verdictOf c slot (length ws))
-  -- "a slot shows its last": reading and words; the others stay
+      → callUpOf board c slot reading ws ≡ called (record { board = board; bridge = c .bridge; verdict = verdictOf c slot (length ws) }) (c .tx) (c .rx)
+  -- "a slot shows its last": reading, count and words; the others stay
   pub shows : (board : Board) (slot reading : ℕ) (ws : List ℕ) → length (board .slots) ≡ slotCount → slot ≤ lastSlot
       → getD (showing board slot reading ws .slots) slot emptySlot ≡ slotOf reading ws
+  pub shows-reading : (reading : ℕ) (ws : List ℕ) → (slotOf reading ws .reading ≡ reading) × (slotOf reading ws .count ≡ length ws)
   pub shows-words : (reading : ℕ) (ws : List ℕ) → length ws ≤ callUpMost → take (slotOf reading ws .count) (slotOf reading ws .words) ≡ ws
   pub others-stay : (board : Board) (slot reading : ℕ) (ws : List ℕ) (k : ℕ) → k ≢ slot
       → getD (showing board slot reading ws .slots) k emptySlot ≡ getD (board .slots) k emptySlot
@@ -62,17 +87,28 @@ pub record CallUpBoard : Type 0 where
   -- accepted, and each call-up taken stands in it with its VSYNC behind it, in the order taken, every word unchanged.
   pub forty-shown : (good : Bool) (tx rx : List ℕ) (board : Board) (acts : List Act) → RightStores tx rx
       → KeptBy (yard board (powerOn good tx rx)) acts → Shown good tx rx board acts
-  -- A SHIFT THAT ENDS. After any run of demand 3 that leaves the bridge at rest, with a chain that gives each bit back as many ticks later as it has cells (none:
+  -- A chain gives back the oldest of the bits under way in it, and with none the bit of this tick.
+  pub gives-back : (m : Moment) → underWay m ++ (echo ours (m .at) ∷ []) ≡ sinAt m ∷ underWay (ticked m)
+  -- What a shift tells of itself: these are its events, their ticks are the ticks told, and the count says which call-ups were taken.
+  pub shift-given : (board : Board) (m : Moment) (ds : List Due) (budget : ℕ)
+      → endOf ours (m .at) (shiftEvents ds (shifting board m Taken 0 0) budget) ≡ shiftFrom ds (shifting board m Taken 0 0) budget .moment .at
+  pub shift-ticks : (board : Board) (m : Moment) (ds : List Due) (budget : ℕ)
+      → ticksIn (shiftEvents ds (shifting board m Taken 0 0) budget) ≡ shiftFrom ds (shifting board m Taken 0 0) budget .ticks
+  pub shift-counted : (board : Board) (m : Moment) (ds : List Due) (budget : ℕ) → Counted board ds budget (shiftFrom ds (shifting board m Taken 0 0) budget)
+  pub shift-is : (board : Board) (m : Moment) (ds : List Due) (budget : ℕ) → isBroken (verdictOf (m .at) 0 1) ≡ false
+      → shiftOf board m (cellsOf ds) budget ≡ shiftFrom ds (shifting board m Taken 0 0) budget
+  -- A SHIFT THAT ENDS. On a bridge at rest, with a chain that gives each bit back as many ticks later as it has cells (none:
   -- looped straight back), call-ups of any words, forty or four hundred: all are taken, all are sent, the board shows them, and the line has them all, within a
   -- budget that their words and the delay give.
   pub shift-ends : (board : Board) (m : Moment) (ds : List Due) (budget : ℕ) → Whole (m .at) → AtRest m → AllRight ds
       → budgetFor (length (m .chain)) ds ≤ budget → AllTaken board (length (m .chain)) ds (shiftOf board m (cellsOf ds) budget)
-  -- these are the events that it gave to the bridge, and
-  pub shift-given : (board : Board) (m : Moment) (ds : List Due) (budget : ℕ) → Whole (m .at) → AtRest m → AllRight ds
-      → budgetFor (length (m .chain)) ds ≤ budget
-      → endOf ours (m .at) (shiftEvents ds (shifting board m Taken 0 0) budget) ≡ shiftOf board m (cellsOf ds) budget .moment .at
-  -- this is the line
+  -- and after a run of demand 3 this is the line, and each of its bits
   pub shift-shown : (good : Bool) (tx rx : List ℕ) (before : List Event) (board : Board) (m : Moment) (ds : List Due) (budget : ℕ) → RightStores tx rx
       → Premises ours (powerOn good tx rx) before → m .at ≡ endOf ours (powerOn good tx rx) before → AtRest m → AllRight ds
       → budgetFor (length (m .chain)) ds ≤ budget
       → LineShows (powerOn good tx rx) before (shiftEvents ds (shifting board m Taken 0 0) budget) ds
+  pub shift-exact : (good : Bool) (tx rx : List ℕ) (before : List Event) (board : Board) (m : Moment) (ds : List Due) (budget : ℕ) → RightStores tx rx
+      → Premises ours (powerOn good tx rx) before → m .at ≡ endOf ours (powerOn good tx rx) before → AtRest m → AllRight ds
+      → budgetFor (length (m .chain)) ds ≤ budget
+      → WholeLine (soutOf ours (powerOn good tx rx) (before ++ shiftEvents ds (shifting board m Taken 0 0) budget))
+      (acceptedIn ours (powerOn good tx rx) before ++ pairs (wordsOf ds))

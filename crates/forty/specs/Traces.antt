@@ -1,11 +1,12 @@
 -- What a wait, an offer and a shift give to the bridge, event by event. Assumes nothing.
+use mathlib.Core.Bool.{Bool}
 use mathlib.Core.List.{List, [], _∷_, _++_}
-use Prim.Native.Nat.{ℕ, zero, suc, _-_}
-use lib.ListN.{length}
+use Prim.Native.Nat.{ℕ, zero, suc, _-_, _%_}
+use lib.ListN.{length, take, drop}
 use Rattle.base.specs.Pick.{pick}
 use Rattle.command.specs.Layouts.{ours}
 use Rattle.events.specs.declared.Event.{Event}
-use Rattle.events.specs.declared.Event.the-variants.{Tick}
+use Rattle.events.specs.declared.Event.the-variants.{Power, Word, Release, Tick, Clock as ClockReading}
 use Rattle.verdict.specs.Verdicts.{isTaken}
 use Rattle.callup.specs.CallUp.{callUp}
 use Rattle.chain.specs.Echo.{echo}
@@ -15,11 +16,23 @@ use Rattle.chain.specs.declared.Goal.{Goal}
 use Rattle.chain.specs.declared.Goal.the-variants.{Room, Sent}
 use Rattle.shift.specs.Shifts.{Due, Shifting, takenAfter, nextOffer}
 
+-- the bits under way in a chain, oldest first
+unfoldable pub under : List Bool → ℕ → List Bool
+under [] oldest = []
+under (x ∷ xs) oldest = drop (oldest % length (x ∷ xs)) (x ∷ xs) ++ take (oldest % length (x ∷ xs)) (x ∷ xs)
+
+abbrev pub underWay : Moment → List Bool
+underWay m = under (m .chain) (m .oldest)
+
+-- the bit that the next tick reads
+abbrev pub sinAt : Moment → Bool
+sinAt m = back (m .chain) (m .oldest) (echo ours (m .at))
+
 -- the ticks of a wait, each with the bit that comes back
 unfoldable pub waitEvents : ℕ → Goal → Moment → List Event
 waitEvents zero goal m = []
 waitEvents (suc budget) goal m =
-    pick (met goal (m .at)) [] (Tick (back (m .chain) (m .oldest) (echo ours (m .at))) ∷ waitEvents budget goal (ticked m))
+    pick (met goal (m .at)) [] (Tick (sinAt m) ∷ waitEvents budget goal (ticked m))
 
 -- and the call-up where it is taken
 unfoldable pub offerEvents : Due → Shifting → ℕ → List Event
@@ -31,3 +44,12 @@ unfoldable pub shiftEvents : List Due → Shifting → ℕ → List Event
 shiftEvents [] s budget = waitEvents (budget - s .ticks) Sent (s .moment)
 shiftEvents (d ∷ ds) s budget =
     offerEvents d s budget ++ pick (isTaken (nextOffer d s budget .verdict)) (shiftEvents ds (takenAfter s (nextOffer d s budget)) budget) []
+
+-- the line ticks among events
+unfoldable pub ticksIn : List Event → ℕ
+ticksIn [] = 0
+ticksIn (Power good ∷ es) = ticksIn es
+ticksIn (Word w ∷ es) = ticksIn es
+ticksIn (Release ∷ es) = ticksIn es
+ticksIn (Tick sin ∷ es) = suc (ticksIn es)
+ticksIn (ClockReading reading ∷ es) = ticksIn es

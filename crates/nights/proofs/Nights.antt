@@ -1,5 +1,5 @@
 -- A night keeps demand 3's premises where its other events do, and the line shows every call-up that was taken. Assumes nothing.
-use mathlib.Core.Path.{_≡_, refl, ap, ap₂, _∙_, subst}
+use mathlib.Core.Path.{_≡_, refl, ap, ap₂, sym, _∙_, subst}
 use mathlib.Core.Bool.{Bool, true, false}
 use mathlib.Core.List.{List, [], _∷_, _++_, append-assoc, append-nil}
 use Prim.Native.Nat.{ℕ}
@@ -21,11 +21,11 @@ use Rattle.order.proofs.Order.{between-step, between-run, between-power, in-ord
 use Rattle.callup.specs.CallUp.{vsync, callUp, pairs}
 use Rattle.callup.specs.Taken.{Takes, Taken}
 use Rattle.callup.proofs.Frame.{logOf}
-use Rattle.callup.proofs.CallUp.{log-append, premises-append, ours-speaks, taken}
+use Rattle.callup.proofs.CallUp.{end-append, log-append, premises-append, ours-speaks, taken}
 use Rattle.board.specs.Board.{takenOf, callUpOf}
 use Rattle.board.specs.declared.Board.{Board}
 use Rattle.board.proofs.Taking.{taken-takes}
-use Rattle.nights.specs.Nights.{Act, event, call, Yard, yard, actOn, takes, givenBy, eventsIn, takenBy, takenIn, KeptBy, calledUp, loggedBy, logIn, Quiet, Shown}
+use Rattle.nights.specs.Nights.{Act, event, call, Yard, yard, actOn, takes, givenBy, eventsIn, yardAfter, takenBy, takenIn, KeptBy, calledUp, loggedBy, logIn, Quiet, Shown}
 
 -- Outside of a frame the log has none open.
 pub at-idle : (c : Config) (bits : List Bool) (g : Log) → Between c bits g → c .bridge .frame .phase ≡ Idle → g ≡ logOf (g .closed) []
@@ -115,6 +115,23 @@ ran (event e ∷ acts) y bits g o i k =
 ran (call slot reading ws ∷ acts) y bits g o i k =
     ran-call y g slot reading ws acts bits o i (k .0) (λ more h p q. ran acts (actOn y (call slot reading ws)) more h p q (k .1))
 
+-- the events of a night lead where its acts do
+given-leads : (y : Yard) (a : Act) → endOf ours (y .at) (givenBy y a) ≡ actOn y a .at
+unfolding givenBy endOf pick
+given-leads y (event e) = unfold actOn in refl
+given-leads y (call slot reading ws) = go (takes y slot ws) refl
+  where
+    go : (t : Bool) → takes y slot ws ≡ t → endOf ours (y .at) (pick (takes y slot ws) (callUp ws) []) ≡ actOn y (call slot reading ws) .at
+    go true h = rw h (sym (left-taken y slot reading ws h))
+    go false h = rw h (sym (left-refused y slot reading ws h))
+
+night-leads : (acts : List Act) (y : Yard) → endOf ours (y .at) (eventsIn y acts) ≡ yardAfter y acts .at
+unfolding eventsIn yardAfter endOf
+night-leads [] y = refl
+night-leads (a ∷ acts) y =
+    end-append ours (y .at) (givenBy y a) (eventsIn (actOn y a) acts)
+    ∙ ap (λ (c : Config). endOf ours c (eventsIn (actOn y a) acts)) (given-leads y a) ∙ night-leads acts (actOn y a)
+
 -- an event that queues no command lists none
 quiet-settle : (t : Bool) (D : List (List ℕ)) (ws : List ℕ) → (settle t D ws false .closed ≡ D) × (settle t D ws false .accepted ≡ false)
 unfolding settle joined
@@ -162,6 +179,7 @@ module _ (good : Bool) (tx rx : List ℕ) (stores : RightStores tx rx) (board : 
   night-shown =
       let p : Premises ours (powerOn good tx rx) (eventsIn start acts) = at-end .premises in
       record {
+        led-to = night-leads acts start;
         faithful = record {
           in-order = in-order ours ours-fits good tx rx stores (eventsIn start acts) p;
           exactly = exactly ours ours-fits good tx rx stores (eventsIn start acts) p;

@@ -8,7 +8,7 @@ use Rattle.base.specs.Pick.{pick}
 use Rattle.command.specs.Layouts.{ours}
 use Rattle.line.specs.Format.{Words}
 use Rattle.events.specs.declared.Event.{Event}
-use Rattle.bridge.specs.Runs.{Config, next, powerOn}
+use Rattle.bridge.specs.Runs.{Config, next, endOf, powerOn}
 use Rattle.order.specs.Accepted.{planOf, Log, noLog, accepts, logged, listed, acceptedIn}
 use Rattle.order.specs.Demand.{Faithful}
 use Rattle.order.specs.Premises.{Fair}
@@ -52,6 +52,11 @@ unfoldable pub eventsIn : Yard → List Act → List Event
 eventsIn y [] = []
 eventsIn y (a ∷ acts) = givenBy y a ++ eventsIn (actOn y a) acts
 
+-- what it leaves
+unfoldable pub yardAfter : Yard → List Act → Yard
+yardAfter y [] = y
+yardAfter y (a ∷ acts) = yardAfter (actOn y a) acts
+
 -- the words of the call-ups taken, in the order taken
 unfoldable pub takenBy : Yard → Act → List (List ℕ)
 takenBy y (event e) = []
@@ -61,7 +66,7 @@ unfoldable pub takenIn : Yard → List Act → List (List ℕ)
 takenIn y [] = []
 takenIn y (a ∷ acts) = takenBy y a ++ takenIn (actOn y a) acts
 
--- Demand 3's premises, asked of the other events alone. Of a call-up nothing is asked but that its words are of sixteen bits, as the code's type says.
+-- What demand 3's theorems ask of an event (`Fair`, less than its own premises), asked of the other events alone. Of a call-up nothing is asked but that its words are of sixteen bits, as the code's type says.
 abbrev pub KeptBy : Yard → List Act → Type 0
 KeptBy y [] = Unit {0}
 KeptBy y (event e ∷ acts) = Fair ours (y .at) e × KeptBy (actOn y (event e)) acts
@@ -87,6 +92,8 @@ Quiet y (call slot reading ws ∷ acts) = Quiet (actOn y (call slot reading ws))
 
 -- A night from power-up, by the line: demand 3's own statement holds of its bits, and what is accepted is as said above.
 pub record Shown (good : Bool) (tx rx : List ℕ) (board : Board) (acts : List Act) : Type 0 where
+  -- these events lead where the acts do
+  pub led-to : endOf ours (powerOn good tx rx) (eventsIn (yard board (powerOn good tx rx)) acts) ≡ yardAfter (yard board (powerOn good tx rx)) acts .at
   pub faithful : Faithful ours (powerOn good tx rx) (eventsIn (yard board (powerOn good tx rx)) acts)
   pub list-is :
       acceptedIn ours (powerOn good tx rx) (eventsIn (yard board (powerOn good tx rx)) acts)

@@ -1,4 +1,5 @@
--- A shift: call-ups offered in order, each waiting for room, until one is refused for another reason or the ticks end; then all is sent. Assumes nothing.
+-- A shift: call-ups offered in order, each waiting for room. It stops at one that is refused for another reason, or where the ticks end; after the last one
+-- all that was taken is sent. Assumes nothing.
 use mathlib.Core.Path.{_≡_}
 use mathlib.Core.Bool.{Bool, _||_}
 use mathlib.Core.List.{List, [], _∷_, _++_}
@@ -79,7 +80,7 @@ unfoldable pub duesBy : ℕ → List ℕ → ℕ → List Due
 duesBy zero cells at = []
 duesBy (suc n) cells at = pick (ltb at (length cells)) (dueAt cells at ∷ duesBy n cells (dueAfter cells at)) []
 
--- a list has fewer call-ups than cells
+-- a list has no more call-ups than cells
 abbrev pub duesIn : List ℕ → List Due
 duesIn cells = duesBy (length cells) cells 0
 
