@@ -26,7 +26,8 @@ use Rattle.order.specs.Accepted.{Log, planOf, logged, logBy}
 use Rattle.verdict.specs.Verdicts.{callUpMost}
 use Rattle.order.specs.Premises.{Premises}
 use Rattle.callup.specs.CallUp.{vsync, given, callUp, sumBy, Speaks}
-use Rattle.callup.specs.Taken.{Takes, AllDone, AllWrite, Taken}
+use Rattle.callup.specs.Taken.{Takes, AllDone}
+use Rattle.callup.proofs.Taken.{AllWrite, Taken}
 use Rattle.callup.proofs.Frame.{logOf, Ran, same-then, ran-frame}
 
 -- A run of two parts.

@@ -49,7 +49,8 @@ use Rattle.bridge.specs.Runs.{Config, outOf, endOf, next, faults}
 use Rattle.order.specs.Accepted.{planOf, Log, came, accepts, collects, joined, settle, logged, logBy}
 use Rattle.order.specs.Premises.{Fair, Premises, isPower, Typed, losing}
 use Rattle.frames.specs.Frames.{frameOf}
-use Rattle.callup.specs.Taken.{AllDone, OfHost, NoReads, AllWrite, Same, Sixteens}
+use Rattle.callup.specs.Taken.{AllDone, Same, Sixteens}
+use Rattle.callup.proofs.Taken.{OfHost, NoReads, AllWrite}
 use Rattle.base.specs.Truth.{never}
 use Rattle.state.specs.Rings.{cellOf}
 use Rattle.bridge.proofs.Reached.{Obeys, obeyed-turn, step-obeys}

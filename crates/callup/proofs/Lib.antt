@@ -1,2 +1,3 @@
+pub mod Taken
 pub mod Frame
 pub mod CallUp

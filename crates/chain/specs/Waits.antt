@@ -1,4 +1,4 @@
--- Ticks until a call-up finds room, or until nothing is left to send. Assumes nothing.
+-- Ticks until a call-up finds room (02 item 13, "35 no room"), or until nothing is left to send (01 The line, "Draining"). ours. Assumes nothing.
 use mathlib.Core.Bool.{Bool, true, not}
 use mathlib.Core.List.{List}
 use Prim.Native.Nat.{ℕ, zero, suc, _+_}

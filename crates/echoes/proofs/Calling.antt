@@ -20,7 +20,8 @@ use Rattle.bridge.proofs.Reached.{Obeys}
 use Rattle.order.specs.Accepted.{Log}
 use Rattle.order.proofs.Waiting.{QueueOk, waiting-push, queue-push}
 use Rattle.callup.specs.CallUp.{callUp, ticksFor}
-use Rattle.callup.specs.Taken.{Takes, Taken}
+use Rattle.callup.specs.Taken.{Takes}
+use Rattle.callup.proofs.Taken.{Taken}
 use Rattle.echoes.proofs.Counts.{unreadBit, unread, unread-same}
 use Rattle.echoes.proofs.Ticks.{Tuned}
 

@@ -27,7 +27,8 @@ use Rattle.verdict.specs.declared.Verdict.{Verdict}
 use Rattle.verdict.specs.declared.Verdict.the-variants.{Taken, WrongStores, BrokenRecord, NoSlot, WrongLength, NoRoom}
 use Rattle.verdict.proofs.Taking.{Finds, taken-facts}
 use Rattle.callup.specs.CallUp.{callUp, pairs}
-use Rattle.callup.specs.Taken.{Takes, Taken as CallTaken}
+use Rattle.callup.specs.Taken.{Takes}
+use Rattle.callup.proofs.Taken.{Taken as CallTaken}
 use Rattle.callup.proofs.Frame.{logOf}
 use Rattle.callup.proofs.CallUp.{end-append, log-append, premises-append, ours-speaks, taken}
 use Rattle.board.specs.Board.{called, verdictOf, refusedIn, takenOf, callUpOf, slotOf, showing}

@@ -21,7 +21,8 @@ use Rattle.order.specs.Premises.{Premises}
 use Rattle.verdict.specs.Verdicts.{lastSlot, callUpMost, hasRoom, isNoRoom}
 use Rattle.verdict.specs.declared.Verdict.the-variants.{Taken, NoRoom}
 use Rattle.callup.specs.CallUp.{vsync, callUp, pairs, ticksFor}
-use Rattle.callup.specs.Taken.{Open, Takes, Taken as CallTaken}
+use Rattle.callup.specs.Taken.{Open, Takes}
+use Rattle.callup.proofs.Taken.{Taken as CallTaken}
 use Rattle.callup.proofs.Frame.{logOf}
 use Rattle.callup.proofs.CallUp.{end-append, log-append, premises-append, ours-speaks, taken}
 use Rattle.board.specs.Board.{showing, verdictOf, takenOf, callUpOf}

@@ -1,4 +1,4 @@
--- A shift that ends: what it begins with, how many ticks it may need, and what it leaves. Assumes nothing.
+-- A shift that ends: what it begins with, how many ticks it may need (01 The line, "Draining"), and what it leaves. ours. Assumes nothing.
 use mathlib.Core.Path.{_≡_}
 use mathlib.Core.Bool.{true}
 use mathlib.Core.List.{List, [], _∷_, _++_}

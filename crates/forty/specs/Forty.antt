@@ -95,6 +95,7 @@ pub record CallUpBoard : Type 0 where
   pub shift-ticks : (board : Board) (m : Moment) (ds : List Due) (budget : ℕ)
       → ticksIn (shiftEvents ds (shifting board m Taken 0 0) budget) ≡ shiftFrom ds (shifting board m Taken 0 0) budget .ticks
   pub shift-counted : (board : Board) (m : Moment) (ds : List Due) (budget : ℕ) → Counted board ds budget (shiftFrom ds (shifting board m Taken 0 0) budget)
+  -- and with neither note 1 nor 2 due it is what `shift::shift` does, lent the cells of the list
   pub shift-is : (board : Board) (m : Moment) (ds : List Due) (budget : ℕ) → isBroken (verdictOf (m .at) 0 1) ≡ false
       → shiftOf board m (cellsOf ds) budget ≡ shiftFrom ds (shifting board m Taken 0 0) budget
   -- A SHIFT THAT ENDS. On a bridge at rest, with a chain that gives each bit back as many ticks later as it has cells (none:

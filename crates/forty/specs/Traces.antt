@@ -1,4 +1,4 @@
--- What a wait, an offer and a shift give to the bridge, event by event. Assumes nothing.
+-- What a wait, an offer and a shift give to the bridge, event by event. ours. Assumes nothing.
 use mathlib.Core.Bool.{Bool}
 use mathlib.Core.List.{List, [], _∷_, _++_}
 use Prim.Native.Nat.{ℕ, zero, suc, _-_, _%_}

@@ -19,7 +19,8 @@ use Rattle.order.proofs.Frames.{Shut, Kept}
 use Rattle.order.proofs.Steps.{Between}
 use Rattle.order.proofs.Order.{between-step, between-run, between-power, in-order, exactly, exactly-all, all-sent}
 use Rattle.callup.specs.CallUp.{vsync, callUp, pairs}
-use Rattle.callup.specs.Taken.{Takes, Taken}
+use Rattle.callup.specs.Taken.{Takes}
+use Rattle.callup.proofs.Taken.{Taken}
 use Rattle.callup.proofs.Frame.{logOf}
 use Rattle.callup.proofs.CallUp.{end-append, log-append, premises-append, ours-speaks, taken}
 use Rattle.board.specs.Board.{takenOf, callUpOf}

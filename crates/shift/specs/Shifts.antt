@@ -1,5 +1,5 @@
--- A shift: call-ups offered in order, each waiting for room. It stops at one that is refused for another reason, or where the ticks end; after the last one
--- all that was taken is sent. Assumes nothing.
+-- A shift (02 item 13, "the program for the shift"; how it goes is ours): call-ups offered in order, each waiting for room. It stops at one that is
+-- refused for another reason, or where the ticks end; after the last one all that was taken is sent. Assumes nothing.
 use mathlib.Core.Path.{_≡_}
 use mathlib.Core.Bool.{Bool, _||_}
 use mathlib.Core.List.{List, [], _∷_, _++_}
