@@ -18,12 +18,11 @@ ROOT = TESTS.parent
 sys.dont_write_bytecode = True
 sys.path[:0] = [str(TESTS / "model"), str(ROOT / "tools")]
 from frames import ROWS, order  # noqa: E402
-from make_scripts import POWER, WORD, crc16  # noqa: E402
-from pair import built_model, difference  # noqa: E402
+from make_scripts import WORD, crc16  # noqa: E402
+from pair import EVENTS, HEAD, POWER_UP, RECORD, built_model, difference  # noqa: E402
 from refused import Refused  # noqa: E402
 
 GUIDE = (ROOT / "docs/HOST-GUIDE.md").read_text()
-HEAD = b"CWB\x00\x01"
 HEX = r"(?:[0-9A-F]{4} ?)+"
 ORDER = rf"`((?:{'|'.join(ROWS)})(?: [a-z]+=\d+)*(?: [0-9A-F]{{4}})*)`"
 
@@ -85,16 +84,25 @@ def wrong(model, texts):
             yield f"in no run: {shown}, answer {answer}"
 
 
+def batches(texts):
+    """Scripts of the texts one behind another, each text from a power-up, EVENTS events at most."""
+    batch = HEAD
+    for text in texts:
+        if batch != HEAD and len(batch) + len(text) > EVENTS * RECORD:
+            yield batch
+            batch = HEAD
+        batch += POWER_UP + text
+    yield batch
+
+
 def main():
     texts = dict(scripts())
     with tempfile.TemporaryDirectory() as folder:
         work = pathlib.Path(folder)
         model = built_model(work)
         bad = list(wrong(model, texts))
-        power_up = bytes((POWER, 0, 1))
-        found = difference(work, model, HEAD + b"".join(power_up + script for script in texts.values()))
-    if found:
-        bad.append(f"the programs differ\n{found}")
+        differences = [difference(work, model, batch) for batch in batches(texts.values())]
+    bad += [f"the programs differ\n{found}" for found in differences if found]
     if bad:
         print(*bad, sep="\n")
         sys.exit("guide: it does not hold")

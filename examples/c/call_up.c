@@ -58,7 +58,7 @@ int main(void)
     say_status((const uint16_t[]){0x0441, 0x892E}, 2);  /* the CRC word of some frame was wrong */
     say_status((const uint16_t[]){0x0420, 0xD1CB}, 2);  /* one bit turned on the way */
 
-    const uint16_t registers[] = {0x01FF, 0x00FF, 0x23E7};
+    const uint16_t registers[] = {0x003F, 0x00FF, 0x73A4};  /* as they power up */
     int32_t length = icelichen_frame(ICELICHEN_REG_RD_CRC, 0, 3, 2, none, 0, frame, ROOM);
     int32_t data = icelichen_data(ICELICHEN_REG_RD_CRC, 0, 3, 2, registers, 3);
     show("read registers 3 and 4", frame, length);

@@ -1,5 +1,5 @@
 /*
- * bridge_model.c - an independent model of the bridge of document 01.
+ * bridge_model.c - an independent model of the bridge of document 01, with item 2 of document 02.
  *
  *   bridge_model [-c | -i] [file.cwb]
  *
@@ -18,6 +18,7 @@
 
 enum { TX_SIZE = 512, RX_SIZE = 256, PLACES = 8, END_BITS = 18, GROUP_BITS = 17 };
 enum { REGISTERS = 11, SIN_LIMIT_MS = 5 };
+enum { START_LEVEL = 63 };              /* 02 item 2: TXFFLVL at power-up */
 enum device_state { NORMAL = 0, INIT = 1, FAILSAFE = 3 };
 
 /* 01 "Notes": the numbers of those this program can meet (1 and 2 never are). */
@@ -145,7 +146,7 @@ static void power_up(struct bridge *b, bool good)
     b->state = good ? NORMAL : INIT;
     b->flag.otp = !good;
     b->flag.por = true;
-    b->tx_level = 0x01FF;
+    b->tx_level = START_LEVEL;
     b->rx_level = 0x00FF;
     b->drdy = true;
     b->tx.size = TX_SIZE;

@@ -1,7 +1,7 @@
 #!/usr/bin/env python3
-"""check_model.py - hand-checked small scripts for bridge_model, with 01's own numbers.
+"""check_model.py - hand-checked small scripts for bridge_model, with 01's own numbers, and 02's where it changes them.
 
-Every expected value below is a literal from document 01 or is worked out in the comment
+Every expected value below is a literal from the documents or is worked out in the comment
 beside it; nothing is taken from the model. CRC words are computed by binascii (CRC-CCITT,
 start 0xFFFF), not by the model's or the generator's code.
 """
@@ -191,7 +191,7 @@ def check_reset_values():
     s.frame(0xDA00)
     first = s.answer(12)
     s.run()
-    want = [0, 0, 0, 0x01FF, 0x00FF, 0, 0, 0x0403, 0, 0, 0]
+    want = [0, 0, 0, 0x003F, 0x00FF, 0, 0, 0x0403, 0, 0, 0]
     expect("reset values", [s.sdo(first + i) for i in range(12)], want + [crc(*want)])
     s = cleared()
     for address in (0, 1, 2, 3, 4, 6, 8, 9, 10):
@@ -254,6 +254,94 @@ def check_next_start():
     out = s.ticks([1] * 72)
     s.run()
     expect("start follows END at once", s.sout(out), command(0xAAF0) + command(0x5555))
+
+
+# ---- 02 item 2: TXFFLVL powers up at 63 ----
+def check_start_level():
+    """The word that releases a FWD_WR of so many words: one earlier nothing begins. Level None: not written."""
+    for level, count, first in ((None, 1, 1), (None, 63, 63), (None, 64, 64), (None, 65, 64), (None, 66, 64), (None, 512, 64),
+                                (None, 513, 64), (0x003F, 65, 64), (62, 65, 63), (64, 65, 65), (64, 66, 65), (0x01FF, 65, 65),
+                                (0x01FF, 511, 511), (0x01FF, 512, 512), (0x01FF, 513, 512)):
+        s = cleared()
+        if level is not None:
+            s.write(3, level)
+        given = [s.word(word) for word in (0x3000 | count - 1, *range(first - 1))]
+        held = s.ticks([1] * 40)
+        given.append(s.word(first - 1))
+        out = s.ticks([1] * 2)              # a word is taken at the second: room for a 513th
+        given += [s.word(word) for word in range(first, count)]
+        out += s.ticks([1] * (17 * count + 18))
+        given.append(s.word(crc(0x3000 | count - 1, *range(count))))
+        status = s.answer()
+        s.run()
+        name = f"level {level}, {count} words: "
+        expect(name + f"{first - 1} stored", s.sout(held), [1] * 40)
+        expect(name + f"{first} stored", s.sout(out), command(*range(count)) + [1])
+        expect(name + "notes", {s.note(e) for e in held + out + given}, {0})
+        expect(name + "status", s.sdo(status), 0x0400)
+
+
+def check_level_counts_the_fifo():
+    for own, left in ((3, 60), (4, 0)):
+        s = Script()                        # POR is up: 60 words of a first forward wait in TX
+        s.frame(0x303B, *range(60))
+        s.answer()
+        s.word(0x3009, *range(own))
+        cut = s.release()                   # 63 words: taken back; 64: released, data missing, a transmit clear
+        fifo = s.read(9)
+        s.run()
+        expect(f"60 words and {own}", (s.note(cut), s.sdo(fifo)), (12, left))
+
+
+def check_level_stays():
+    """Levels read back: a soft reset leaves them, a power-up of either kind gives 63 and 255."""
+    for good in (1, 0):
+        s = Script()
+        levels, resets = [(s.read(3), s.read(4))], [s.reset()]
+        levels.append((s.read(3), s.read(4)))
+        for level in (0x01FF, 0x003E, 0x0040):
+            s.write(3, level)
+            s.write(4, 3)
+            resets.append(s.reset())
+            levels.append((s.read(3), s.read(4)))
+            s.power(good)
+            levels.append((s.read(3), s.read(4)))
+        s.run()
+        up = (0x003F, 0x00FF)
+        want = [up, up, (0x01FF, 3), up, (0x003E, 3), up, (0x0040, 3), up]
+        expect(f"levels, power {good}", [(s.sdo(tx), s.sdo(rx)) for tx, rx in levels], want)
+        expect(f"levels, resets, power {good}", [s.note(e) for e in resets], [0] * 4)
+
+
+def paced(count, period):
+    """FWD_WR at the power-up level: 64 words at once, then one every so many ticks, the start bit's tick the first of them.
+
+    The ticks with a note; how many later words were stored, how many dropped; whether SOUT has the words taken, END and 1s.
+    """
+    s = cleared()
+    s.word(0x3000 | count - 1, *range(64))
+    out, later = [], []
+    while len(out) < 1 + 17 * count + 18:
+        out += s.ticks([1])
+        if len(out) % period == 0 and 64 + len(later) < count:
+            later.append(s.word(64 + len(later)))
+    s.run()
+    notes = {tick: s.note(e) for tick, e in enumerate(out) if s.note(e)}
+    line = command(*range(min(notes, default=17 * count + 1) // 17))
+    given = [s.note(e) for e in later]
+    return notes, given.count(0), given.count(5), s.sout(out) == line + [1] * (len(out) - len(line))
+
+
+def check_level_starves():
+    """Word k is taken 17 k + 1 ticks after the start bit's tick; 64 words and (17 k + 1) / period have come by then."""
+    expect("65 words, 64 come", paced(65, 9999), ({17 * 64 + 1: 13}, 0, 0, True))
+    # one in 34 ticks: word 126 at tick 2,143 is the last of 64 + 63; word 127, at tick 2,160, comes 16 ticks later and is dropped
+    expect("127 words, one in 34 ticks", paced(127, 34), ({}, 63, 0, True))
+    expect("128 words, one in 34 ticks", paced(128, 34), ({2160: 13}, 63, 1, True))
+    # one in 18 ticks: word 1,135 at tick 19,296 is the last of 64 + 1,072, come just before it; word 1,136 at tick 19,313 comes a tick later
+    expect("1136 words, one in 18 ticks", paced(1136, 18), ({}, 1072, 0, True))
+    expect("1137 words, one in 18 ticks", paced(1137, 18), ({19313: 13}, 1072, 1, True))
+    expect("1137 words, one in 17 ticks", paced(1137, 17), ({}, 1073, 0, True))
 
 
 # ---- clock ----
@@ -325,7 +413,7 @@ def check_overflow():
     s.word(0x3000 | 599)
     stored = [s.word(i) for i in range(512)]
     over, more = s.word(512), s.word(513)
-    cut = s.release()                       # not released before: no second clear
+    cut = s.release()                       # released at the 64th word: a second clear, no tick after the first
     fifo = s.read(9)
     s.ticks([1] * 17)
     busy = s.reset()
@@ -488,9 +576,7 @@ def check_answers():
 
 
 def main():
-    if not os.path.exists(MODEL):
-        subprocess.check_call(["gcc", "-std=c11", "-O2", "-Wall", "-Wextra", "-o", MODEL,
-                               MODEL + ".c"])
+    subprocess.check_call(["gcc", "-std=c11", "-O2", "-Wall", "-Wextra", "-o", MODEL, MODEL + ".c"])
     checks = [f for name, f in sorted(globals().items()) if name.startswith("check_")]
     for check in checks:
         check()

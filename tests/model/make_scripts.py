@@ -1,12 +1,12 @@
 #!/usr/bin/env python3
 """make_scripts.py SEED EVENTS > file.cwb
 
-Meaningful random CWB scripts for the bridge of document 01, the same for the same seed.
+Meaningful random CWB scripts for the bridge of document 01 with item 2 of 02, the same for the same seed.
 The SIN bits are mostly a loop-back of SOUT, so the C model is driven through a pipe
 (`bridge_model -i`), which also tells the SOUT bit of the next tick. Nothing the model says
 decides more than SIN bits and a few waits: a script is good for any other implementation.
 The environment variable BRIDGE_MODEL names a model already built; without it one is built
-beside this file.
+beside this file, and again where its source is newer.
 """
 import os
 import random
@@ -17,6 +17,7 @@ from collections import deque
 HERE = os.path.dirname(os.path.abspath(__file__))
 POWER, WORD, RELEASE, TICK, CLOCK = range(5)
 TELLING = [0xFFFF, 0x0000, 0x7FFF, 0xFFFE, 0x8000, 0x0001, 0xFFFD, 0xAAF0, 0xAA0F]
+AT_POWER_UP = 0x003F  # TXFFLVL
 
 
 def crc16(words):
@@ -42,7 +43,7 @@ class Bench:
 
     def __init__(self, limit):
         path = os.environ.get("BRIDGE_MODEL") or os.path.join(HERE, "bridge_model")
-        if not os.path.exists(path):
+        if not os.path.exists(path) or os.path.exists(path + ".c") and os.path.getmtime(path) < os.path.getmtime(path + ".c"):
             subprocess.check_call(["gcc", "-std=c11", "-O2", "-o", path, path + ".c"])
         self.proc = subprocess.Popen([path, "-i"], stdin=subprocess.PIPE,
                                      stdout=subprocess.PIPE, bufsize=-1)
@@ -224,7 +225,7 @@ class Host:
         any_word = rng.getrandbits(16)
         choice = {
             1: [0, 0, 0, 0x0001, 0x0300, 0x0A00, 0x0500, any_word & 0xFF00, 0],
-            3: [0x01FF, 0x01FF, 0, 1, 3, 0x8000, 0x81FF, 0x8003, any_word],
+            3: [0x01FF, 0x01FF, AT_POWER_UP, AT_POWER_UP, 62, 64, 0, 1, 3, 0x8000, 0x81FF, 0x803F, 0x8003, any_word],
             4: [0x00FF, 0, 1, 3, 0x8000, 0x80FF, 0x8002, any_word, 0x00FE],
             5: [0, 1, 4, 5, 1, any_word],
             6: [0, 0x0B01, any_word, 0x0800, 0x0200, 0x0100, 1],
@@ -239,7 +240,7 @@ class Host:
         yield from self.reg_write(5, [1, rng.choice([0, 0, 0x0B01]), 0x8000], wrong=0, cut=0)
         yield from self.empty(0.3)
         if self.chance(0.3):
-            level = rng.choice([0x01FF, 0x01FF, 0, 2])
+            level = rng.choice([0x01FF, 0x01FF, AT_POWER_UP, 62, 64, 0, 2])
             yield from self.reg_write(3, [level, rng.choice([0xFF, 0, 2])], wrong=0, cut=0)
         if self.chance(0.5):
             yield from self.reg_write(1, [rng.choice([0, 0, 0x2000])], wrong=0, cut=0)
@@ -250,7 +251,28 @@ class Host:
             yield "t", 20
             yield from self.soft_reset(wrong=0, cut=0)
         elif self.chance(p):
-            yield from self.reg_write(3, [0x81FF], wrong=0, cut=0)
+            yield from self.reg_write(3, [self.rng.choice([0x81FF, 0x803F])], wrong=0, cut=0)
+
+    def start_over(self, levels):
+        """TX and queue empty, NORMAL, no flag, at one of these levels: by a power-up where it can be, half the time."""
+        level = self.rng.choice(levels)
+        yield ("r",)
+        if level == AT_POWER_UP and self.chance(0.5):
+            yield "p", 1
+            yield from self.reg_write(7, [0x8000], wrong=0, cut=0)
+        else:
+            yield from self.reg_write(5, [1, 0, 0x8000], wrong=0, cut=0)
+            yield from self.reg_write(3, [0x8000 | level], wrong=0, cut=0)
+
+    def paced(self, number, count, early, period):
+        """A forward with so many ticks behind each word, `early` behind the first 64, and then until it is sent; none once it is blocked."""
+        self.bench.blocked = False
+        yield ("r",)
+        for at, action in enumerate(self.forward(number, count)):
+            yield action
+            yield "t", 0 if self.bench.blocked else early if at < 64 else period
+        made = max(0, at - 64) * period
+        yield "t", 40 if self.bench.blocked else max(40, 17 * min(at, count) + 40 - made)
 
     # ---- programs, one a phase ----
     def one_frame(self):
@@ -304,7 +326,7 @@ class Host:
 
     def overflow(self):
         rng = self.rng
-        yield from self.reg_write(3, [rng.choice([0x01FF, 0x81FF, 5])], wrong=0, cut=0)
+        yield from self.reg_write(3, [rng.choice([0x01FF, 0x81FF, AT_POWER_UP, 5])], wrong=0, cut=0)
         if self.chance(0.4):
             yield from self.forward(2, rng.choice([511, 512, 300]), wrong=0, cut=0)
             yield from self.reg_read(9, 1)
@@ -340,6 +362,28 @@ class Host:
             yield from self.observe()
             if self.chance(0.8):
                 yield from self.reg_write(7, [0x8000], wrong=0)
+
+    def near_level(self):
+        """Forwards of 60 to 70 words, into an empty TX or behind one another."""
+        rng = self.rng
+        levels = [AT_POWER_UP, AT_POWER_UP, AT_POWER_UP, 62, 64, 0x01FF]
+        yield from self.start_over(levels)
+        while True:
+            period = rng.choice([0, 1, 16, 18, 60, 400, 1200, 1200])
+            yield from self.paced(rng.choice([3, 3, 3, 3, 2]), rng.randint(60, 70), rng.choice([0, 0, 0, 1, 17]), period)
+            if self.bench.blocked or self.chance(0.5):
+                yield from self.start_over(levels)
+            if self.chance(0.3):
+                yield from self.observe()
+
+    def long_forward(self):
+        """A long FWD_WR at the power-up level, by a host slower or faster than the line."""
+        rng = self.rng
+        yield from self.start_over([AT_POWER_UP])
+        count = rng.choice([128, rng.randint(128, 200), rng.randint(128, 300), rng.randint(300, 600)])
+        period = rng.choice(rng.choice([[1, 4, 9, 15, 16, 17], [18, 20, 24, 28, 34, 40, 50]]))
+        yield from self.paced(3, count, rng.choice([0, 0, 1, period]), period)
+        yield from self.observe()
 
     def queue(self):
         rng = self.rng
@@ -469,7 +513,7 @@ class Host:
                 yield from self.forward(cut=0)
             yield "t", rng.choice([0, 1, 5, 18, 19, 30, 35, 36, 37, 50, 70])
             if kind == "t":
-                yield from self.reg_write(3, [rng.choice([0x81FF, 0x8000, 0x8002])])
+                yield from self.reg_write(3, [rng.choice([0x81FF, 0x803F, 0x8000, 0x8002])])
             elif kind == "r":
                 yield from self.reg_write(4, [rng.choice([0x80FF, 0x8000, 0x8001])])
             elif kind == "b":
@@ -511,11 +555,12 @@ class Host:
 
 
 DECK = (["traffic"] * 7 + ["clean_forwards"] * 8 + ["overflow"] * 2 + ["underflow"] * 4
-        + ["queue"] * 4 + ["receive_fill"] + ["registers"] * 3 + ["resets"] * 2
+        + ["near_level"] * 2 + ["long_forward"] + ["queue"] * 4 + ["receive_fill"] + ["registers"] * 3 + ["resets"] * 2
         + ["malformed"] + ["watch"] * 3 + ["watchdog"] * 2 + ["failsafe"] * 2 + ["clears"] * 4
         + ["power"] + ["chaos"])
 SPAN = {"clean_forwards": 900, "overflow": 1500, "receive_fill": 6500, "queue": 900, "power": 250, "chaos": 150,
-        "malformed": 250}
+        "malformed": 250, "near_level": 2000, "long_forward": 12000}
+PACED = ("overflow", "queue", "near_level", "long_forward")  # with hardly a tick that the program does not ask for
 
 
 class Maker:
@@ -555,8 +600,7 @@ class Maker:
         if rng.random() < 0.85:
             for action in host.recover():
                 self.act(action)
-        quiet = name in ("overflow", "queue")
-        ticks = rng.choice([0, 0, 0.02]) if quiet else rng.choice([0, 0, 0.3, 1, 3, 8])
+        ticks = rng.choice([0, 0, 0.02]) if name in PACED else rng.choice([0, 0, 0.3, 1, 3, 8])
         clocks = rng.choice([0, 0.01, 0.1]) if name != "overflow" else 0
         stop = self.bench.events + SPAN.get(name, rng.randint(200, 600))
         for action in getattr(host, name)():

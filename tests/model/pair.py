@@ -1,6 +1,7 @@
 """The independent program and the bench program on the same script."""
 import os
 import pathlib
+import platform
 import shutil
 import subprocess
 import sys
@@ -11,7 +12,8 @@ MOST_OUTPUT = 1 << 20  # bytes that `rt try` lets a program print
 HEAD = b"CWB\x00\x01"
 POWER_UP = b"\x00\x00\x01"
 RECORD = len(POWER_UP)  # bytes of an event
-SEEDS, EVENTS = 35, 60_000  # the gate's random scripts (make_scripts.py): seeds 1 to SEEDS, of EVENTS events each
+# the gate's random scripts (make_scripts.py): seeds 1 to SEEDS, of EVENTS events each; fewer under the kit's emulator, where `rt try` ends longer runs
+SEEDS, EVENTS = 35, 60_000 if platform.machine() in ("x86_64", "AMD64") else 20_000
 
 
 def built_model(work):

@@ -18,7 +18,7 @@ use Rattle.state.specs.declared.Ring.{Ring}
 use Rattle.state.specs.declared.Store.{Store}
 use Rattle.state.specs.declared.Store.the-variants.{Keep, Put}
 use Rattle.kept.proofs.Fits.{LayoutFit}
-use Rattle.kept.proofs.Sound.{facts-sound}
+use Rattle.kept.proofs.Sound.{sound-facts, facts-sound}
 use Rattle.kept.specs.Rules.{BridgeRules}
 use Rattle.ticks.specs.Ticks.{tickNote, tickEnds, tickHears, ticked}
 use Rattle.clock.specs.Clock.{clocked}
@@ -29,7 +29,7 @@ use Rattle.events.specs.declared.Event.the-variants.{Power, Word, Release, Tick
 use Rattle.events.proofs.Keeps.{rules-keep}
 use Rattle.events.proofs.Quiet.{power-keeps}
 use Rattle.bridge.specs.Step.{step}
-use Rattle.bridge.specs.Runs.{Config, RightStores, refuses, outOf, next, endOf, powerOn}
+use Rattle.bridge.specs.Runs.{Config, RightStores, Whole, refuses, outOf, next, endOf, powerOn}
 use Rattle.bridge.proofs.Plans.{ofHost, tame-word, tame-release}
 
 -- Without notes 1 and 2 an event is its rule carried out.
@@ -71,6 +71,9 @@ reacted-not-refusal l b (ClockReading reading) w x = refl
 pub record Obeys (c : Config) : Type 0 where
   pub rules : BridgeRules (c .bridge)
   pub stores : RightStores (c .tx) (c .rx)
+
+pub obeys-whole : (c : Config) → Whole c → Obeys c
+obeys-whole c w = record { rules = sound-facts (c .bridge) (w .rules) (w .eight); stores = w .stores }
 
 module _ (l : Layout) (fits : LayoutFit l) where
   -- there an event is its rule carried out

@@ -3,11 +3,13 @@
 use mathlib.Core.Path.{_≡_}
 use mathlib.Core.Bool.{Bool, true, _&&_, _||_}
 use mathlib.Core.List.{List, [], _∷_, _++_}
-use Prim.Native.Nat.{ℕ}
+use Prim.Native.Nat.{ℕ, suc}
 use lib.Dec.{eqb}
 use lib.ListN.{length}
 use Rattle.command.specs.Layouts.{Layout}
+use Rattle.rules.specs.Sound.{sound}
 use Rattle.state.specs.Notes.{noteNumber}
+use Rattle.state.specs.Queue.{places}
 use Rattle.state.specs.Rings.{txSize, rxSize}
 use Rattle.state.specs.Sending.{idle}
 use Rattle.state.specs.declared.Bridge.{Bridge}
@@ -28,6 +30,12 @@ pub record Config : Type 0 where
 pub record RightStores (tx rx : List ℕ) : Type 0 where
   pub tx-is : length tx ≡ txSize
   pub rx-is : length rx ≡ rxSize
+
+-- neither note 1 nor 2 is due. The code's type has an array of eight places.
+pub record Whole (c : Config) : Type 0 where
+  pub stores : RightStores (c .tx) (c .rx)
+  pub rules : sound (c .bridge) ≡ true
+  pub eight : length (c .bridge .sending .queue .places) ≡ places
 
 -- notes 1 and 2: the event is refused. 01 Notes
 unfoldable pub refuses : Note → Bool
@@ -59,6 +67,15 @@ lineBit (Word w) b = []
 lineBit Release b = []
 lineBit (Tick sin) b = b ∷ []
 lineBit (ClockReading reading) b = []
+
+-- the line ticks among events
+unfoldable pub ticksIn : List Event → ℕ
+ticksIn [] = 0
+ticksIn (Power good ∷ es) = ticksIn es
+ticksIn (Word w ∷ es) = ticksIn es
+ticksIn (Release ∷ es) = ticksIn es
+ticksIn (Tick sin ∷ es) = suc (ticksIn es)
+ticksIn (ClockReading reading ∷ es) = ticksIn es
 
 -- the SOUT bits of a run
 unfoldable pub soutOf : Layout → Config → List Event → List Bool

@@ -10,8 +10,8 @@ use Rattle.base.specs.Pick.{pick}
 use Rattle.base.specs.Truth.{never}
 use Rattle.command.specs.Layouts.{ours}
 use Rattle.events.specs.declared.Event.{Event}
-use Rattle.events.specs.declared.Event.the-variants.{Power, Word, Release, Tick, Clock as ClockReading}
-use Rattle.bridge.specs.Runs.{Config, endOf}
+use Rattle.bridge.specs.Runs.{Config, ticksIn, endOf}
+use Rattle.bridge.proofs.Ticks.{ticks-append}
 use Rattle.verdict.specs.Verdicts.{isTaken}
 use Rattle.verdict.specs.declared.Verdict.{Verdict}
 use Rattle.verdict.specs.declared.Verdict.the-variants.{Taken}
@@ -29,7 +29,7 @@ use Rattle.chain.specs.declared.Goal.the-variants.{Room, Sent}
 use Rattle.echoes.proofs.Settling.{fed-in}
 use Rattle.shift.specs.Shifts.{Due, Shifting, shifting, Offer, offerOf, takenAfter, nextOffer, shiftFrom}
 use Rattle.shift.proofs.Lists.{shift-ticks}
-use Rattle.forty.specs.Traces.{under, underWay, sinAt, waitEvents, offerEvents, shiftEvents, ticksIn}
+use Rattle.forty.specs.Traces.{under, underWay, sinAt, waitEvents, offerEvents, shiftEvents}
 use Rattle.forty.specs.Ends.{boardAfter}
 use Rattle.forty.specs.Forty.{Counted}
 use Rattle.forty.proofs.Ring.{under-front, under-behind}
@@ -43,15 +43,6 @@ gives-back m =
     ∙ rw (under-front (m .chain) (m .oldest) b, under-behind (m .chain) (m .oldest) b) refl
 
 -- 2. Its events lead to what it leaves, and its ticks are theirs.
-ticks-append : (a b : List Event) → ticksIn (a ++ b) ≡ ticksIn a + ticksIn b
-unfolding ticksIn
-ticks-append [] b = omega arith
-ticks-append (Power good ∷ a) b = ticks-append a b
-ticks-append (Word w ∷ a) b = ticks-append a b
-ticks-append (Release ∷ a) b = ticks-append a b
-ticks-append (Tick sin ∷ a) b = let e : ticksIn (a ++ b) ≡ ticksIn a + ticksIn b = ticks-append a b in omega arith
-ticks-append (ClockReading reading ∷ a) b = ticks-append a b
-
 given-none : (ws : List ℕ) → ticksIn (given ws) ≡ 0
 unfolding given ticksIn
 given-none [] = refl

@@ -14,9 +14,8 @@ use Rattle.rules.specs.Sound.{sound}
 use Rattle.state.specs.declared.Queue.{Queue}
 use Rattle.events.specs.declared.Event.{Event}
 use Rattle.kept.proofs.Fits.{ours-fits}
-use Rattle.kept.proofs.Sound.{sound-facts}
-use Rattle.bridge.specs.Runs.{Config, RightStores, endOf, soutOf, powerOn}
-use Rattle.bridge.proofs.Reached.{Obeys, run-obeys, power-obeys}
+use Rattle.bridge.specs.Runs.{Config, RightStores, Whole, endOf, soutOf, powerOn}
+use Rattle.bridge.proofs.Reached.{Obeys, obeys-whole, run-obeys, power-obeys}
 use Rattle.order.specs.Accepted.{Log, noLog, joined, logBy, listed, acceptedIn}
 use Rattle.order.specs.Exactly.{Whole as WholeLine}
 use Rattle.order.specs.Premises.{Premises}
@@ -40,14 +39,11 @@ use Rattle.shift.specs.Shifts.{Due, Shifting, shifting, cellsOf, firstVerdict, 
 use Rattle.shift.proofs.Lists.{dues-cells}
 use Rattle.forty.specs.Traces.{shiftEvents}
 use Rattle.forty.specs.Ends.{budgetFor, AllRight, AtRest, wordsOf, AllTaken, LineShows}
-use Rattle.forty.specs.Forty.{Whole, TakenRight, InOrder, CallUpBoard}
+use Rattle.forty.specs.Forty.{TakenRight, InOrder, CallUpBoard}
 use Rattle.forty.proofs.Waits.{verdict-open}
 use Rattle.forty.proofs.Shifts.{Ran, shift-run}
 use Rattle.forty.proofs.Counting.{gives-back, shift-counted, shift-given, ticks-given}
 use Rattle.forty.proofs.Rest.{rest-in-tune, rest-settled}
-
-obeys-whole : (c : Config) → Whole c → Obeys c
-obeys-whole c w = record { rules = sound-facts (c .bridge) (w .rules) (w .eight); stores = w .stores }
 
 taken-when : (board : Board) (c : Config) (slot reading : ℕ) (ws : List ℕ) → Whole c → slot ≤ lastSlot → Takes c ws
     → callUpOf board c slot reading ws

@@ -9,11 +9,10 @@ use Prim.Native.Nat.{ℕ, _+_, _≤_, _<_}
 use lib.ListN.{length, getD, take}
 use Rattle.command.specs.Layouts.{ours}
 use Rattle.line.specs.Format.{Words}
-use Rattle.state.specs.Queue.{places}
 use Rattle.state.specs.declared.Phase.the-variants.{Idle}
 use Rattle.rules.specs.Sound.{sound}
 use Rattle.events.specs.declared.Event.{Event}
-use Rattle.bridge.specs.Runs.{Config, RightStores, endOf, soutOf, powerOn}
+use Rattle.bridge.specs.Runs.{Config, RightStores, Whole, ticksIn, endOf, soutOf, powerOn}
 use Rattle.order.specs.Accepted.{acceptedIn}
 use Rattle.order.specs.Exactly.{Whole as WholeLine}
 use Rattle.order.specs.Premises.{Premises}
@@ -27,14 +26,8 @@ use Rattle.nights.specs.Nights.{Act, yard, KeptBy, Shown}
 use Rattle.chain.specs.Chain.{Moment, ticked}
 use Rattle.chain.specs.Echo.{echo}
 use Rattle.shift.specs.Shifts.{Due, Shifting, shifting, cellsOf, shiftFrom, shiftOf}
-use Rattle.forty.specs.Traces.{underWay, sinAt, shiftEvents, ticksIn}
+use Rattle.forty.specs.Traces.{underWay, sinAt, shiftEvents}
 use Rattle.forty.specs.Ends.{budgetFor, AllRight, AtRest, wordsOf, boardAfter, AllTaken, LineShows}
-
--- neither note 1 nor 2 is due. The code's type has an array of eight places.
-pub record Whole (c : Config) : Type 0 where
-  pub stores : RightStores (c .tx) (c .rx)
-  pub rules : sound (c .bridge) ≡ true
-  pub eight : length (c .bridge .sending .queue .places) ≡ places
 
 -- What a call-up that is taken leaves: every note of its two frames is 0; two places and n + 1 words more, and what `Same` names as it was.
 pub record TakenRight (c : Config) (ws : List ℕ) : Type 0 where

@@ -6,7 +6,7 @@ use lib.ListN.{length, take, drop}
 use Rattle.base.specs.Pick.{pick}
 use Rattle.command.specs.Layouts.{ours}
 use Rattle.events.specs.declared.Event.{Event}
-use Rattle.events.specs.declared.Event.the-variants.{Power, Word, Release, Tick, Clock as ClockReading}
+use Rattle.events.specs.declared.Event.the-variants.{Tick}
 use Rattle.verdict.specs.Verdicts.{isTaken}
 use Rattle.callup.specs.CallUp.{callUp}
 use Rattle.chain.specs.Echo.{echo}
@@ -44,12 +44,3 @@ unfoldable pub shiftEvents : List Due → Shifting → ℕ → List Event
 shiftEvents [] s budget = waitEvents (budget - s .ticks) Sent (s .moment)
 shiftEvents (d ∷ ds) s budget =
     offerEvents d s budget ++ pick (isTaken (nextOffer d s budget .verdict)) (shiftEvents ds (takenAfter s (nextOffer d s budget)) budget) []
-
--- the line ticks among events
-unfoldable pub ticksIn : List Event → ℕ
-ticksIn [] = 0
-ticksIn (Power good ∷ es) = ticksIn es
-ticksIn (Word w ∷ es) = ticksIn es
-ticksIn (Release ∷ es) = ticksIn es
-ticksIn (Tick sin ∷ es) = suc (ticksIn es)
-ticksIn (ClockReading reading ∷ es) = ticksIn es

@@ -23,7 +23,7 @@ table =
     row 0x0000 0x0000  -- 0 DEVID. ours (001 7.6.1 has 0xED99)
     ∷ row 0x0000 0xFF01  -- 1 SPICTRL: bits 15..8 watchdog ms (0 off), bit 0 no answer. ours; bit 0 as 001 7.6.2
     ∷ row 0x0000 0xFFFF  -- 2 CCSICTRL. ours, as 001 7.6.3
-    ∷ row 0x01FF 0x81FF  -- 3 TXFFLVL: bits 8..0; bit 15 clears. ours, as 001 7.6.4
+    ∷ row 0x003F 0x81FF  -- 3 TXFFLVL: bits 8..0; bit 15 clears. ours, as 001 7.6.4; its reset value 02 item 2
     ∷ row 0x00FF 0x80FF  -- 4 RXFFLVL: bits 7..0; bit 15 clears. 001 7.6.5
     ∷ row 0x0000 0x0005  -- 5 DEVCTRL: 2 force, 0 exit failsafe. 001 7.6.6
     ∷ row 0x0000 0x0B01  -- 6 DIAGMASK: bits 11, 9, 8, 0. 001 7.6.7

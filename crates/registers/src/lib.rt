@@ -103,7 +103,7 @@ pub const TABLE: [Register; 11] = [
     },
     // 3 TXFFLVL
     Register {
-        reset: 0x01FF,
+        reset: 0x003F,
         writable: 0x81FF,
     },
     // 4 RXFFLVL

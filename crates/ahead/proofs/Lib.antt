@@ -1,0 +1,7 @@
+pub mod Numbers
+mod Plans
+mod Going
+pub mod Ahead
+mod Waiting
+pub mod Level
+mod Examples
