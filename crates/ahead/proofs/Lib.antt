@@ -4,4 +4,5 @@ mod Going
 pub mod Ahead
 mod Waiting
 pub mod Level
+mod Tests
 mod Examples

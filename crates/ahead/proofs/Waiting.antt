@@ -37,14 +37,17 @@ use Rattle.kept.proofs.Sender.{Chosen, chosen, kept-finished, rules-advanced}
 use Rattle.ticks.specs.Ticks.{tickEnds, tickHears, ticked}
 use Rattle.ahead.proofs.Plans.{Orderly, OrderlyBy, concluded-to-come, idle-to-come}
 
--- place p is the next with words to begin; `least` words are in TX, or all of p's. By the list of those that wait: places move up as older ones
--- are freed
-pub record Poised (s : Sending) (p : Place) (least : ℕ) : Type 0 where
-  pub none-left : s .sender .left ≡ 0
+-- place p is the oldest with words of those that wait; a list, because places move up as older ones are freed
+pub record Foremost (q : Queue) (p : Place) : Type 0 where
   pub older : List Place
   pub wordless : wordsOf older ≡ 0
   pub behind : List Place
-  pub first : waiting (s .queue) ≡ older ++ (p ∷ behind)
+  pub first : waiting q ≡ older ++ (p ∷ behind)
+
+-- it is the next to take words; `least` words are in TX, or all of its own
+pub record Poised (s : Sending) (p : Place) (least : ℕ) : Type 0 where
+  pub none-left : s .sender .left ≡ 0
+  pub foremost : Foremost (s .queue) p
   pub ahead : s .tx .count < p .words → least ≤ s .tx .count
 
 words-append : (xs ys : List Place) → wordsOf (xs ++ ys) ≡ wordsOf xs + wordsOf ys
@@ -55,7 +58,13 @@ words-append (x ∷ xs) ys = omega (arith, words-append xs ys)
 module _ (p : Place) (least : ℕ) where
   poised-requeued : (s : Sending) (q : Queue) → Poised s p least → Kept (s .queue) q
       → Poised (record { tx = s .tx; queue = q; sender = s .sender }) p least
-  poised-requeued s q g k = record { none-left = g .none-left; older = g .older; wordless = g .wordless; behind = g .behind; first = k .waits ∙ g .first; ahead = g .ahead }
+  poised-requeued s q g k =
+      let f : Foremost (s .queue) p = g .foremost in
+      record {
+        none-left = g .none-left;
+        foremost = record { older = f .older; wordless = f .wordless; behind = f .behind; first = k .waits ∙ f .first };
+        ahead = g .ahead;
+      }
 
   -- The next with words to begin is this one.
   next-place : (x : Place) (rest older behind : List Place) → wordsOf older ≡ 0 → x ∷ rest ≡ older ++ (p ∷ behind) → 0 < x .words → x ≡ p
@@ -65,7 +74,9 @@ module _ (p : Place) (least : ℕ) where
 
   pub poised-place : (s : Sending) → Poised s p least → QueueFit (s .queue) → length (s .queue .places) ≡ 8 → s .queue .begun < s .queue .used
       → 0 < placeAt (s .queue) (s .queue .begun) .words → placeAt (s .queue) (s .queue .begun) ≡ p
-  poised-place s g f l h k = next-place _ _ (g .older) (g .behind) (g .wordless) (sym (waiting-begun (s .queue) f l h) ∙ g .first) k
+  poised-place s g f l h k =
+      let o : Foremost (s .queue) p = g .foremost in
+      next-place _ _ (o .older) (o .behind) (o .wordless) (sym (waiting-begun (s .queue) f l h) ∙ o .first) k
 
   -- A tick that does not begin it.
   module _ (some : 0 < p .words) where
@@ -76,40 +87,24 @@ module _ (p : Place) (least : ℕ) where
     ends-begin s w x rest [] behind z e h q a = let d : x ≡ p = cc in absurd (omega (arith, some, subst (λ (u : Place). u .words ≡ 0) d h))
     ends-begin s w x rest (y ∷ older) behind z e h q a =
         let r : rest ≡ older ++ (p ∷ behind) = cc in
-        record { none-left = refl; older = older; wordless = omega (arith, z); behind = behind; first = q ∙ r; ahead = a }
+        record {
+          none-left = refl;
+          foremost = record { older = older; wordless = omega (arith, z); behind = behind; first = q ∙ r };
+          ahead = a;
+        }
 
     poised-tick : (s : Sending) (w : ℕ) → Poised s p least → QueueFit (s .queue) → length (s .queue .places) ≡ 8 → (x : Next) → Chosen s x
         → isStart x ≡ false → Poised (advanced x s w) p least
     unfolding advanced senderAfter
-    poised-tick s w g f l GoOn h n = record {
-      none-left = g .none-left;
-      older = g .older;
-      wordless = g .wordless;
-      behind = g .behind;
-      first = g .first;
-      ahead = g .ahead;
-    }
+    poised-tick s w g f l GoOn h n = record { none-left = g .none-left; foremost = g .foremost; ahead = g .ahead }
     poised-tick s w g f l LoadWord h n = absurd (omega (arith, h .1, g .none-left))
     poised-tick s w g f l Starve h n = absurd (omega (arith, h .1, g .none-left))
-    poised-tick s w g f l LoadEnd h n = record {
-      none-left = refl;
-      older = g .older;
-      wordless = g .wordless;
-      behind = g .behind;
-      first = g .first;
-      ahead = g .ahead;
-    }
+    poised-tick s w g f l LoadEnd h n = record { none-left = refl; foremost = g .foremost; ahead = g .ahead }
     poised-tick s w g f l StartWords h n = never true refl n
     poised-tick s w g f l StartEnds h n =
-        ends-begin s w _ _ (g .older) (g .behind) (g .wordless) (sym (waiting-begun (s .queue) f l (h .3)) ∙ g .first) (h .4) refl (g .ahead)
-    poised-tick s w g f l Stay h n = record {
-      none-left = refl;
-      older = g .older;
-      wordless = g .wordless;
-      behind = g .behind;
-      first = g .first;
-      ahead = g .ahead;
-    }
+        let o : Foremost (s .queue) p = g .foremost in
+        ends-begin s w _ _ (o .older) (o .behind) (o .wordless) (sym (waiting-begun (s .queue) f l (h .3)) ∙ o .first) (h .4) refl (g .ahead)
+    poised-tick s w g f l Stay h n = record { none-left = refl; foremost = g .foremost; ahead = g .ahead }
 
     pub poised-ticked : (b : Bridge) (sin : Bool) (w : ℕ) → BridgeRules b → Poised (b .sending) p least
         → isStart (choose (b .sending) (mayStart (b .control))) ≡ false → Poised (ticked b sin w .bridge .sending) p least
@@ -129,10 +124,7 @@ module _ (p : Place) (least : ℕ) where
   poised-stored s g Keep = g
   poised-stored s g (Put w) = record {
     none-left = g .none-left;
-    older = g .older;
-    wordless = g .wordless;
-    behind = g .behind;
-    first = g .first;
+    foremost = g .foremost;
     ahead = λ h. let k : least ≤ s .tx .count = g .ahead (omega (arith, h)) in omega (arith, k);
   }
 
@@ -142,25 +134,27 @@ module _ (p : Place) (least : ℕ) where
       → Poised (done s d) p least
   unfolding done clears wordsOf
   poised-done s Leave ph level count coming mine g f l c v z r = g
-  poised-done s (Enqueue x) ph level count coming mine g f l c v z r = record {
-    none-left = g .none-left;
-    older = g .older;
-    wordless = g .wordless;
-    behind = g .behind ++ (x ∷ []);
-    first =
-        waiting-queued (s .queue) x f l (omega (arith, r .queue .most)) ∙ ap (λ (ps : List Place). ps ++ (x ∷ [])) (g .first)
-        ∙ append-assoc (g .older) (p ∷ g .behind) (x ∷ []);
-    ahead = g .ahead;
-  }
-  poised-done s (TakeBack x) ph level count coming mine g f l c v z r =
-      let e : wordsOf (waiting (s .queue)) ≡ wordsOf (g .older) + (p .words + wordsOf (g .behind))
-      = ap wordsOf (g .first) ∙ words-append (g .older) (p ∷ g .behind) in
+  poised-done s (Enqueue x) ph level count coming mine g f l c v z r =
+      let o : Foremost (s .queue) p = g .foremost in
       record {
         none-left = g .none-left;
-        older = g .older;
-        wordless = g .wordless;
-        behind = g .behind;
-        first = g .first;
+        foremost = record {
+          older = o .older;
+          wordless = o .wordless;
+          behind = o .behind ++ (x ∷ []);
+          first =
+              waiting-queued (s .queue) x f l (omega (arith, r .queue .most)) ∙ ap (λ (ps : List Place). ps ++ (x ∷ [])) (o .first)
+              ∙ append-assoc (o .older) (p ∷ o .behind) (x ∷ []);
+        };
+        ahead = g .ahead;
+      }
+  poised-done s (TakeBack x) ph level count coming mine g f l c v z r =
+      let o : Foremost (s .queue) p = g .foremost in
+      let e : wordsOf (waiting (s .queue)) ≡ wordsOf (o .older) + (p .words + wordsOf (o .behind))
+      = ap wordsOf (o .first) ∙ words-append (o .older) (p ∷ o .behind) in
+      record {
+        none-left = g .none-left;
+        foremost = o;
         ahead = λ h. absurd (omega (arith, h, r .sum, e, z, idle-to-come ph v));
       }
   poised-done s ClearAll ph level count coming mine g f l c v z r = never true refl c
@@ -174,8 +168,8 @@ module _ (p : Place) (least : ℕ) where
       (i .sending .eight) c v (concluded-to-come l _ _ (x .phase)) (r .sending)
 
 -- The event that queues it, where no word of an earlier command is left to take: by the sum of the record rules what TX lacks of it is to come.
-module _ (s : Sending) (st : Store) (p : Place) (ph : Phase) (least coming mine : ℕ) (i : s .sender .left ≡ 0) (a : wordsOf (waiting (s .queue)) ≡ 0) (f : QueueFit (s .queue))
-    (l : length (s .queue .places) ≡ 8) (z : coming ≤ toCome ph) where
+module _ (s : Sending) (st : Store) (p : Place) (ph : Phase) (least coming mine : ℕ) (i : s .sender .left ≡ 0)
+    (a : wordsOf (waiting (s .queue)) ≡ 0) (f : QueueFit (s .queue)) (l : length (s .queue .places) ≡ 8) (z : coming ≤ toCome ph) where
   abbrev Poises : Deed → Type 0
   Poises d = Orderly least (ringAfter (s .tx) st .count) d ph → SendRules (done (stored s st) d) coming mine → Poised (done (stored s st) d) p least
 
@@ -187,10 +181,7 @@ module _ (s : Sending) (st : Store) (p : Place) (ph : Phase) (least coming mine 
       = ap wordsOf q ∙ words-append (waiting (s .queue)) (p ∷ []) in
       record {
         none-left = i;
-        older = waiting (s .queue);
-        wordless = a;
-        behind = [];
-        first = q;
+        foremost = record { older = waiting (s .queue); wordless = a; behind = []; first = q };
         ahead = λ h. v (omega (arith, h, r .sum, e, i, a, z));
       }
 
