@@ -207,7 +207,7 @@ module _ (l : Layout) (fits : LayoutFit l) (c : Config) (n a : ℕ) (es : List E
       (λ before sin after q k h z.
       let m : ticksIn before + 1 ≡ takenAt k = omega (arith, z) in
       covers n a k (takenAt k / p) (storedIn l c before) h (each-in-time n a p d o e k h)
-      (λ r. subst (λ (x : ℕ). x / p ≤ storedIn l c before) m (y before sin after q r)))
+      (λ r. subst (λ (x : ℕ). x / p ≤ storedIn l c before) m (omega (arith, y before sin after q r))))
 
   -- with fewer, the last word is late
   too-few-ahead : (p : ℕ) → 0 < p → a < ahead n p → Fed l c es → tickAfter es ≡ takenAt (n - 1) → storedIn l c es ≤ tickAfter es / p → (sin : Bool)
@@ -222,6 +222,7 @@ pub how-many-ahead : (l : Layout) → LayoutFit l → HowManyAhead l
 how-many-ahead l fits c n a es b u = record {
   in-time = λ f k h t w. word-taken l fits c n a es b u f k (omega (arith, h)) t (omega (arith, w));
   too-late = λ f k h t w. word-missed l fits c n a es b u f k (omega (arith, h)) t (omega (arith, w));
-  enough = λ p d o e y t. enough-ahead l fits c n a es b u p (omega (arith, d)) (omega (arith, o)) (omega (arith, e)) y (omega (arith, t));
+  enough = λ p d o e y t. enough-ahead l fits c n a es b u p (omega (arith, d)) (omega (arith, o)) (omega (arith, e))
+      (λ before sin after q r. y before sin after q (omega (arith, r))) (omega (arith, t));
   too-few = λ p d e f t w. too-few-ahead l fits c n a es b u p (omega (arith, d)) (omega (arith, e)) f t (omega (arith, w));
 }

@@ -5,12 +5,12 @@ use mathlib.Core.Path.{_≡_, refl, subst}
 use mathlib.Core.Bool.{true, false}
 use mathlib.Core.List.{List, [], _∷_, _++_}
 use Prim.Native.Nat.{ℕ, _+_, _/_, _≤_}
-use Rattle.kept.proofs.Fits.{ours-fits}
-use Rattle.events.specs.declared.Event.{Event}
-use Rattle.command.specs.Layouts.{ours}
 use native.Mathlib.Omega.{arith}
+use Rattle.command.specs.Layouts.{ours}
 use Rattle.state.specs.Queue.{newPlace}
 use Rattle.state.specs.declared.Note.the-variants.{Done, TxEmpty}
+use Rattle.kept.proofs.Fits.{ours-fits}
+use Rattle.events.specs.declared.Event.{Event}
 use Rattle.events.specs.declared.Event.the-variants.{Word, Tick}
 use Rattle.bridge.specs.Runs.{Config, endOf, ticksIn}
 use Rattle.order.proofs.Examples.{from, ticks, frame, opening, meets}

@@ -127,14 +127,14 @@ goes-performed l b clock p n due lacks g c v r =
     (spares (stored (b .sending) (p .store)) (p .deed) (p .phase) _ _ _ _ _ v (concluded-to-come l _ _ (p .phase)) (r .sending .sum))
 
 -- Any event.
-not-starved : (starved full : Bool) → tickNote starved full ≢ TxEmpty → starved ≡ false
+starved-told : (starved full : Bool) → tickNote starved full ≢ TxEmpty → starved ≡ false
 unfolding tickNote pick
-not-starved true full h = absurd (h refl)
-not-starved false full h = refl
+starved-told true full h = absurd (h refl)
+starved-told false full h = refl
 
 tick-fed : (b : Bridge) (sin : Bool) (w : ℕ) → ticked b sin w .note ≢ TxEmpty → isStarve (choose (b .sending) (mayStart (b .control))) ≡ false
 unfolding ticked tickHears tickEnds tickSender sentBy
-tick-fed b sin w h = not-starved _ _ h
+tick-fed b sin w h = starved-told _ _ h
 
 module _ (l : Layout) (fits : LayoutFit l) (c : Config) (n due lacks : ℕ) (o : Obeys c) (g : Going (c .bridge .sending) n due lacks) where
   pub goes-on : (e : Event) → 0 < n → due + ticksIn (e ∷ []) ≤ takenAt (n - 1) + 1 → losing l c e ≡ false → outOf l c e .answer .note ≢ TxEmpty

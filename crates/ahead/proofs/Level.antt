@@ -7,8 +7,9 @@ use mathlib.Core.List.{List, [], _∷_}
 use Prim.Native.Nat.{ℕ, _+_, _≤_, _<_}
 use native.Mathlib.Omega.{arith}
 use lib.Dec.{ltb}
-use borrow.Author.Tests.{ltb-true, ltb-false}
+use borrow.Author.Tests.{ltb-true, ltb-false, lt-ltb, le-leb, lt-leb}
 use Rattle.base.specs.Truth.{never}
+use Rattle.base.specs.Pick.{pick}
 use Rattle.command.specs.Layouts.{Layout}
 use Rattle.line.specs.declared.Piece.the-variants.{StartBit}
 use Rattle.state.specs.Queue.{places, waiting, wordsOf}
@@ -21,6 +22,8 @@ use Rattle.next.specs.Next.{mayStart, choose, isStart}
 use Rattle.next.specs.declared.Next.{Next}
 use Rattle.next.specs.declared.Next.the-variants.{GoOn, LoadWord, Starve, LoadEnd, StartWords, StartEnds, Stay}
 use Rattle.sender.specs.Sender.{senderAfter, advanced, sentBy, tickSender}
+use Rattle.forwards.specs.Forward.{guard, forwarded, forwardWord, asksStore}
+use Rattle.host.specs.Frames.{planned, plannedIn, dataWord}
 use Rattle.kept.specs.Rules.{BridgeRules}
 use Rattle.kept.proofs.Fits.{LayoutFit}
 use Rattle.kept.proofs.Sender.{Chosen, chosen}
@@ -38,10 +41,6 @@ use Rattle.order.specs.Accepted.{planOf}
 use Rattle.order.specs.Premises.{isPower, losing}
 use Rattle.ahead.specs.Ahead.{ahead, Begun, Each, Uncut}
 use Rattle.ahead.specs.Level.{starts, Alone, startOf, inTx, level, LevelAhead, WhatToWrite, NoLater}
-use Rattle.host.specs.Frames.{planned, plannedIn, dataWord}
-use Rattle.forwards.specs.Forward.{guard, forwarded, forwardWord, asksStore}
-use borrow.Author.Tests.{lt-ltb, le-leb, lt-leb}
-use Rattle.base.specs.Pick.{pick}
 use Rattle.ahead.proofs.Ahead.{each-later, how-many-ahead}
 use Rattle.ahead.proofs.Plans.{orderly-word, orderly-release}
 use Rattle.ahead.proofs.Waiting.{Poised, poised-place, poised-ticked, poised-performed, poised-by}

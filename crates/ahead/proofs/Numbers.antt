@@ -15,16 +15,16 @@ div-mono x y p h k = le-div-iff-mul-le h .1 (le-trans (div-mul-le-self x p) k)
 -- from a host of a word every 17 ticks, or faster
 at-pace : (k p : ℕ) → 0 < p → p ≤ groupLength → k ≤ takenAt k / p
 unfolding takenAt
-at-pace k p h f = let m : k * p ≤ k * 17 = mul-le-mul-left k f in le-div-iff-mul-le h .1 (omega (arith, m))
+at-pace k p h f = let m : k * p ≤ k * groupLength = mul-le-mul-left k f in le-div-iff-mul-le h .1 (omega (arith, m))
 
 -- from a slower one, m words later
 at-most : (k m p : ℕ) → groupLength ≤ p → takenAt (k + m) / p ≤ takenAt k / p + m
 unfolding takenAt
 at-most k m p f =
     let h : 0 < p = omega (arith, f) in
-    let s : 17 * m ≤ p * m = mul-le-mul-right m f in
-    let d : (17 * (k + m) + 1) / p ≤ (17 * k + 1 + p * m) / p = div-mono _ _ p h (omega (arith, s)) in
-    subst (λ (x : ℕ). (17 * (k + m) + 1) / p ≤ x) (add-mul-div-left (17 * k + 1) m h) d
+    let s : groupLength * m ≤ p * m = mul-le-mul-right m f in
+    let d : takenAt (k + m) / p ≤ (takenAt k + p * m) / p = div-mono _ _ p h (omega (arith, s)) in
+    subst (λ (x : ℕ). takenAt (k + m) / p ≤ x) (add-mul-div-left (takenAt k) m h) d
 
 module _ (n a p : ℕ) (h : 0 < p) (o : 0 < a) (e : ahead n p ≤ a) (k : ℕ) (l : k < n) where
   pub each-in-time : k < a + takenAt k / p
@@ -52,4 +52,4 @@ covers n a k x st h i y = by (ltb st (n - a)) refl
 
 pub fast-enough : FastEnough
 unfolding ahead
-fast-enough n p h f = omega (arith, at-pace (n - 1) p h f)
+fast-enough n p h f = omega (arith, at-pace (n - 1) p h (omega (arith, f)))

@@ -29,9 +29,9 @@ use Rattle.forwards.specs.declared.Granted.{Granted}
 use Rattle.forwards.specs.declared.Wish.{Wish}
 use Rattle.writes.specs.Writes.{withWrite, heldWord, registerWord}
 use Rattle.closing.specs.Closing.{wrongCrc, forwardClosed, registersClosed, readClosed, resetClosed, crcDue}
+use Rattle.release.specs.Release.{cutDeed, cut, releasedIn}
 use Rattle.answers.specs.Answers.{answerWith, dataAnswered, registerAnswered, answered}
 use Rattle.host.specs.Frames.{opened, dataWord, plannedIn, planned}
-use Rattle.release.specs.Release.{cutDeed, cut, releasedIn}
 
 abbrev pub Orderly : ℕ → ℕ → Deed → Phase → Type 0
 Orderly least count Leave ph = Unit {0}

@@ -3,18 +3,18 @@ use mathlib.Core.Path.{_≡_, refl, subst, sym}
 use mathlib.Core.Bool.{Bool, true, false, not, _&&_, _||_}
 use mathlib.Core.List.{List, [], _∷_, _++_}
 use Prim.Native.Nat.{ℕ, _+_, _/_, _≤_, _<_}
+use native.Mathlib.Omega.{arith}
 use lib.Dec.{leb}
 use borrow.Author.Tests.{leb-true}
 use Rattle.base.specs.Pick.{and-l, and-r}
 use Rattle.base.specs.Truth.{never}
-use Rattle.order.specs.Accepted.{planOf}
-use Rattle.order.specs.Premises.{losing}
-use Rattle.events.specs.declared.Event.{Event}
-use Rattle.bridge.proofs.Ticks.{ticks-append}
 use Rattle.command.specs.Layouts.{Layout}
-use native.Mathlib.Omega.{arith}
+use Rattle.events.specs.declared.Event.{Event}
 use Rattle.events.specs.declared.Event.the-variants.{Power, Word, Release, Tick, Clock as ClockReading}
 use Rattle.bridge.specs.Runs.{Config, next, endOf, ticksIn}
+use Rattle.bridge.proofs.Ticks.{ticks-append}
+use Rattle.order.specs.Accepted.{planOf}
+use Rattle.order.specs.Premises.{losing}
 use Rattle.ahead.specs.Ahead.{tickAfter, puts, storedIn, Uncut}
 use Rattle.ahead.proofs.Ahead.{each-none, each-first}
 

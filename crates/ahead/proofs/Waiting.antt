@@ -27,9 +27,9 @@ use Rattle.next.specs.Next.{mayStart, choose, isStart}
 use Rattle.next.specs.declared.Next.{Next}
 use Rattle.next.specs.declared.Next.the-variants.{GoOn, LoadWord, Starve, LoadEnd, StartWords, StartEnds, Stay}
 use Rattle.sender.specs.Sender.{senderAfter, advanced, sentBy, tickSender, finished}
-use Rattle.forwards.specs.Forward.{clears}
 use Rattle.plan.specs.Plan.{performed}
 use Rattle.plan.specs.declared.Plan.{Plan}
+use Rattle.forwards.specs.Forward.{clears}
 use Rattle.kept.specs.Rules.{SendRules, BridgeRules}
 use Rattle.kept.proofs.Queue.{Kept, kept-trans, waiting-queued, waiting-begun}
 use Rattle.kept.proofs.Reader.{tick-reader-keeps}
