@@ -12,7 +12,8 @@
 #undef main
 
 enum { WORD = 1, RELEASE, TICK, CLOCK };                    /* kinds of events, 01 The bench program */
-enum { SLOTS = 40, ROWS = 5, MOST_WORDS = 30, NEEDED_PLACES = 2, VSYNC = 0xAAF0 };
+enum { SLOTS = 40, ROWS = 5, MOST_WORDS = 30, VSYNC = 0xAAF0 };
+enum { NEEDED_PLACES = 2 };                                 /* words and VSYNC, neither with extra ENDs: one each (02 item 3) */
 enum { NO_SLOT = 32, WRONG_WORDS = 33, NOT_READY = 34, NO_ROOM = 35 };
 enum { MOST_TEXT = 1 << 20, MOST_SHOWN = 40, MOST_16 = 65535, MOST_TICKS = 1000000, MOST_DELAY = 4096 };
 enum { FWD_WR_CRC = 0x2000, REG_WR_CRC = 0xA000, CLEARS = 0x8000, FORCES = 4, EXITS = 1 };

@@ -1,5 +1,5 @@
 /*
- * bridge_model.c - an independent model of the bridge of document 01, with item 2 of document 02.
+ * bridge_model.c - an independent model of the bridge of document 01, with items 2 and 3 of document 02.
  *
  *   bridge_model [-c | -i] [file.cwb]
  *
@@ -43,9 +43,13 @@ struct flags {
     bool tx_ovf, tx_uvf, rx_ovf, rx_uvf;
 };
 
-/* One place of the queue: a command with its extra ENDs. */
+/*
+ * One place of the queue: words, or extra ENDs. 02 item 3: a forward with both has two, the words first and right
+ * behind them the ENDs. The two are one command under way, so the ENDs stand without their words only while they are sent.
+ */
 struct place {
-    unsigned words, ends;
+    unsigned words, ends;               /* one of them is 0 */
+    bool of_pair;                       /* ENDs that belong to the words queued just before */
     bool store;                         /* FWD_RD_END forms */
     bool begun, sent, read;
     bool compare, check_error;          /* first sent word is FC write or VSYNC */
@@ -56,7 +60,9 @@ enum sender_mode { SEND_IDLE, SEND_WORDS, SEND_ONES };
 struct sender {
     enum sender_mode mode;
     int place;                          /* index in the queue; -1 for an owed END */
-    unsigned words_left, bit, ones_left;
+    unsigned words_left, bit;
+    unsigned ones_left;                 /* of this place alone, not of the extra ENDs behind its words */
+    bool starved;                       /* note 13 came: after this END no extra ENDs follow */
     uint16_t word;
 };
 
@@ -246,6 +252,7 @@ static void transmit_clear(struct bridge *b)
     b->sender.mode = SEND_ONES;
     b->sender.place = -1;
     b->sender.ones_left = END_BITS;
+    b->sender.starved = false;
 }
 
 static void receive_clear(struct bridge *b)
@@ -367,6 +374,37 @@ static int place_to_begin(const struct bridge *b)
     return -1;
 }
 
+/* 02 item 3: the place of the extra ENDs behind these words; -1 where they have none. */
+static int ends_of(const struct bridge *b, int words)
+{
+    unsigned next = (unsigned)words + 1;
+    return next < b->places && b->place[next].of_pair ? (int)next : -1;
+}
+
+static void begin_ends(struct bridge *b, int index)
+{
+    b->place[index].begun = true;
+    b->sender.mode = SEND_ONES;
+    b->sender.place = index;
+    b->sender.ones_left = END_BITS * b->place[index].ends;
+}
+
+/*
+ * The last 1 of a place: it is sent. 02 item 3: words are sent with their own END. Their extra ENDs follow at once,
+ * no start condition is asked for them; after note 13, which ends both, their place is freed instead.
+ */
+static void place_sent(struct bridge *b, int index)
+{
+    int ends = ends_of(b, index);
+    if (ends >= 0 && b->sender.starved)
+        remove_place(b, ends);
+    else if (ends >= 0)
+        begin_ends(b, ends);
+    b->sender.starved = false;
+    b->place[index].sent = true;
+    free_if_done(b, index);
+}
+
 /* One of the 1s of END, of the extra ENDs or of an owed END. */
 static void send_one(struct bridge *b)
 {
@@ -376,10 +414,8 @@ static void send_one(struct bridge *b)
         return;
     s->mode = SEND_IDLE;
     s->place = -1;
-    if (index >= 0) {
-        b->place[index].sent = true;
-        free_if_done(b, index);
-    }
+    if (index >= 0)
+        place_sent(b, index);
 }
 
 /* The tick that begins a place: its start bit, or the first 1 of its extra ENDs. */
@@ -387,15 +423,14 @@ static unsigned begin_place(struct bridge *b, int index)
 {
     struct sender *s = &b->sender;
     struct place *p = &b->place[index];
-    p->begun = true;
-    s->place = index;
     if (p->words == 0) {
-        s->mode = SEND_ONES;
-        s->ones_left = END_BITS * p->ends;
+        begin_ends(b, index);
         send_one(b);
         return 1;
     }
+    p->begun = true;
     s->mode = SEND_WORDS;
+    s->place = index;
     s->words_left = p->words;
     s->bit = 0;
     if (!b->sin_watch) {                /* a start bit marks if the watch is off */
@@ -416,7 +451,7 @@ static void take_word(struct bridge *b)
     p->sent_crc = crc_step(p->sent_crc, s->word);
 }
 
-/* Sixteen bits, high first, and the check bit; then the next word or the ENDs. */
+/* Sixteen bits, high first, and the check bit; then the next word or END. */
 static unsigned send_word_bit(struct bridge *b)
 {
     struct sender *s = &b->sender;
@@ -429,7 +464,7 @@ static unsigned send_word_bit(struct bridge *b)
     s->words_left--;
     if (s->words_left == 0) {
         s->mode = SEND_ONES;
-        s->ones_left = END_BITS * (1 + b->place[s->place].ends);
+        s->ones_left = END_BITS;
     }
     return out;
 }
@@ -450,6 +485,7 @@ static unsigned sender_tick(struct bridge *b, int *note)
             *note = TX_UNDERFLOW;
             s->mode = SEND_ONES;
             s->ones_left = END_BITS;
+            s->starved = true;
         }
     }
     if (s->mode == SEND_WORDS)
@@ -617,22 +653,36 @@ static bool named_crc(const struct command *c)
     return c->number % 2 == 0;
 }
 
-/* 01 "Frames": the release of a forward; notes 5 and 9. */
+/* 02 item 3: words and the extra ENDs behind them have a place each. */
+static unsigned places_needed(const struct command *c)
+{
+    return (c->data > 0) + (c->ends > 0);
+}
+
+static void queue_forward(struct bridge *b, const struct command *c)
+{
+    struct place words = { .words = c->data, .store = c->number >= 6, .sent_crc = 0xFFFF, .read_crc = 0xFFFF };
+    struct place ends = { .ends = c->ends, .of_pair = c->data > 0, .sent_crc = 0xFFFF, .read_crc = 0xFFFF };
+    if (c->data > 0)
+        b->place[b->places++] = words;
+    if (c->ends > 0)
+        b->place[b->places++] = ends;
+}
+
+/* 01 "Frames": the release of a forward; notes 5 and 9. 02 item 3: all the places it needs, or none. */
 static int release_forward(struct bridge *b)
 {
     struct frame *f = &b->frame;
-    if (f->cmd.data == 0 && f->cmd.ends == 0)
+    if (places_needed(&f->cmd) == 0)
         return DONE;                    /* queues nothing, never meets 5 or 9 */
     if (f->blocked)
         return BLOCKED;
-    if (b->places == PLACES) {
+    if (PLACES - b->places < places_needed(&f->cmd)) {
         b->flag.queue_ovf = true;
         transmit_clear(b);
         return QUEUE_OVERFLOW;
     }
-    struct place p = { .words = f->cmd.data, .ends = f->cmd.ends,
-                       .store = f->cmd.number >= 6, .sent_crc = 0xFFFF, .read_crc = 0xFFFF };
-    b->place[b->places++] = p;
+    queue_forward(b, &f->cmd);
     f->released = true;
     return DONE;
 }

@@ -344,6 +344,332 @@ def check_level_starves():
     expect("1137 words, one in 17 ticks", paced(1137, 17), ({}, 1073, 0, True))
 
 
+# ---- 02 item 3: a forward with words and extra ENDs has two places ----
+ENDS = 0x5020                               # FWD_WR_END of no words and one END: one place, released at the command word
+BOTH = 0x5021                               # of one word and one END: two places, released at the data word
+
+
+def looped_back(line, delay, ticks):
+    """SIN of so many ticks where this line comes back with a delay; None: it never does."""
+    if delay is None:
+        return [1] * ticks
+    return ([1] * delay + line + [1] * ticks)[:ticks]
+
+
+def offer(s, *words):
+    """One more forward; the event at which it is released. Its frame is finished."""
+    here = s.word(*words)
+    s.word(crc(*words))
+    s.answer()
+    return here
+
+
+def check_pair_needs_two():
+    """Nothing starts, POR is up. Four forwards with both fill the eight places; _CRC forms are released at the CRC word."""
+    for both in ((0x5021, 1), (0x7020, 1), (0x4021, 1, crc(0x4021, 1)), (0x6020, 1, crc(0x6020, 1))):
+        for more in ((ENDS,), (0x3000, 7), both):
+            s = Script()
+            notes, fifo = [], []
+            for _ in range(4):
+                notes.append(s.word(*both))
+                s.word(*([] if both[0] in (0x4021, 0x6020) else [crc(*both)]), 0xFFFF, 0xFFFF)
+            fifo.append(s.read(9))
+            ninth = s.word(*more)
+            s.release()                     # cut or not: nothing was queued, nothing is taken back
+            fifo.append(s.read(9))
+            faces = s.read(8)
+            s.run()
+            name = f"four of {both[0]:04X}, then {more[0]:04X}"
+            expect(name, [s.note(e) for e in notes + [ninth]], [0, 0, 0, 0, 9])
+            expect(name + ": TXFFST", [s.sdo(e) for e in fifo], [4, 0])
+            expect(name + ": QUEUE_OVF", s.sdo(faces) & 0x0010, 0x0010)
+
+
+def seven_places(*last):
+    """In FAILSAFE, where all is queued and nothing starts: three forwards with both and one of words alone, then this one; a script."""
+    s = cleared()
+    s.write(5, 4)
+    for word in (0x8001, 0x8002, 0x8003):
+        offer(s, BOTH, word)
+    offer(s, 0x3000, 0x8004)
+    return s, offer(s, *last)
+
+
+def check_pair_and_one_place():
+    """Seven places used: room for a forward that needs one, and then for none; not for one with both, of which nothing is queued."""
+    queued = [bit for word in (0x8001, 0x8002, 0x8003) for bit in command(word) + [1] * 18] + command(0x8004)
+    for last, line in (((ENDS,), [1] * 18), ((0x5001, 5), command(5)), ((0x3000, 6), command(6)), ((0x7000, 7), command(7)),
+                       ((0x3002, 1, 2, 3), command(1, 2, 3))):
+        s, asked = seven_places(*last)
+        s.write(5, 1)
+        out = s.ticks([1] * 300)
+        s.run()
+        expect(f"one place free, then {last[0]:04X}", s.note(asked), 0)
+        expect(f"one place free, then {last[0]:04X}: SOUT", s.sout(out), (queued + line + [1] * 300)[:300])
+        s, asked = seven_places(*last)
+        again = s.word(ENDS)
+        s.run()
+        expect(f"one place free, then {last[0]:04X} and an END", (s.note(asked), s.note(again)), (0, 9))
+    for last in ((BOTH, 8), (0x7020, 8), (0x7021, 8, 9), (0x5FE2, 8, 9)):
+        s, asked = seven_places(*last)
+        faces, fifo = s.read(8), s.read(9)
+        s.write(7, 0x8000)
+        s.write(5, 1)
+        out = s.ticks([1] * 300)            # the owed END, and nothing
+        s.run()
+        expect(f"one place free, then {last[0]:04X}", (s.note(asked), s.sdo(faces), s.sdo(fifo)), (9, 0x0010, 0))
+        expect(f"one place free, then {last[0]:04X}: SOUT", s.sout(out), [1] * 300)
+
+
+def check_pair_released_early():
+    """Level 0, POR up: the first data word releases, both places or none."""
+    for singles, notes, want in ((0, [0, 0, 0], 0x0403), (1, [9, 5, 5], 0x4403)):
+        s = Script()
+        for word in range(3):
+            offer(s, BOTH, word)
+        for _ in range(singles):
+            offer(s, ENDS)
+        s.write(3, 0)
+        s.word(0x5023)
+        given = [s.word(word) for word in (7, 8, 9)]
+        s.word(crc(0x5023, 7, 8, 9))
+        status = s.answer()
+        s.run()
+        expect(f"released early, {6 + singles} places used", ([s.note(e) for e in given], s.sdo(status)), (notes, want))
+    s = cleared()
+    s.write(3, 0)
+    s.word(0x5022, 7)                       # released, one word missing
+    cut = s.release()                       # a transmit clear takes both places
+    notes = [offer(s, BOTH, 1) for _ in range(4)]
+    ninth = s.word(ENDS)
+    s.run()
+    expect("released early and cut", [s.note(e) for e in [cut, *notes, ninth]], [12, 0, 0, 0, 0, 9])
+
+
+def freed_at(word, ends, delay, last):
+    """A forward with this word and ENDs, six ENDs behind it: all places used; FAILSAFE from its first bit on, so only it is sent.
+
+    The first ticks after which one place is free, and two (None: not up to tick `last`).
+    """
+    line = command(word) + [1] * 18 * ends
+    s = Script()
+    asked = {}
+    for ticks in range(1, last + 1):
+        for more in ((ENDS,), (BOTH, 0x1111)):
+            s.power(1)
+            s.write(7, 0x8000)
+            offer(s, 0x5001 | ends << 5, word)
+            for _ in range(6):
+                offer(s, ENDS)
+            sin = looped_back(line, delay, ticks)
+            s.ticks(sin[:1])
+            s.write(5, 4)
+            s.ticks(sin[1:])
+            asked[ticks, len(more)] = s.word(*more)
+    s.run()
+    found = []
+    for needed in (1, 2):
+        good = [ticks for ticks in range(1, last + 1) if s.note(asked[ticks, needed]) == 0]
+        found.append(good[0] if good else None)
+        refused = [s.note(asked[ticks, needed]) for ticks in range(1, good[0] if good else last + 1)]
+        expect(f"{word:04X}, {ends} ENDs, delay {delay}: note 9 before, 0 from then on", (set(refused), len(refused) + len(good)), ({9}, last))
+    return tuple(found)
+
+
+def check_pair_freed():
+    """One word: its own END is sent with tick 36, the extra ENDs with tick 36 + 18 each, in FAILSAFE too.
+
+    Straight back END of 0xAAF0 is read at tick 35, of 0xAA0F at tick 36, and later by the delay. The words' place is freed when both are so.
+    """
+    for word, ends, delay, want in ((0xAAF0, 1, 0, (36, 54)), (0xAA0F, 1, 0, (36, 54)), (0xAAF0, 2, 0, (36, 72)), (0xAAF0, 1, 1, (36, 54)),
+                                    (0xAAF0, 1, 2, (37, 54)), (0xAA0F, 1, 1, (37, 54)), (0xAA0F, 2, 10, (46, 72)),
+                                    (0xAA0F, 1, 17, (53, 54)), (0xAA0F, 1, 18, (54, 54)),   # both with the last 1
+                                    (0xAA0F, 1, 19, (54, 55)), (0xAAF0, 1, 40, (54, 75)),   # the ENDs' place first
+                                    (0xAAF0, 2, None, (72, None)), (0x1234, 1, 0, (36, 54))):
+        expect(f"{word:04X}, {ends} ENDs, delay {delay}: freed", freed_at(word, ends, delay, 80), want)
+
+
+def check_pair_compared():
+    """Two words and three ENDs: sent at tick 1 + 34 + 18 = 53 and 107. END of a word with last bit 0 is read a bit early, at 52.
+
+    The CRCs are compared when the words' place is freed; the ENDs still go out.
+    """
+    right = (0xAA00, 0x1234)
+    for sent, read, delay, at in ((right, (0xAA00, 0x1236), 0, 53), (right, (0xAA00, 0x1236), 10, 62), (right, (0xAA00, 0x1236), 60, 112),
+                                  (right, (0xAA00,), 0, 53), (right, right, 0, None), (right, right, 10, None), (right, (), None, None),
+                                  ((0xAB00, 0x1234), (0xAB00, 0x1236), 0, None)):
+        for ticks in (1, 36, 51, 52, 53, 54, 61, 62, 70, 106, 107, 111, 112, 130):
+            s = cleared()
+            offer(s, 0x5062, *sent)
+            out = s.ticks(looped_back(command(*read), delay, ticks))
+            faces, reset = s.read(8), s.reset()
+            s.run()
+            name = f"words {sent} read as {read}, delay {delay}, tick {ticks}"
+            expect(name + ": IFST", s.sdo(faces), 2 if at is not None and ticks >= at else 0)
+            expect(name + ": sending", s.note(reset), 11 if ticks < 107 else 0)
+            expect(name + ": SOUT", s.sout(out), (command(*sent) + [1] * 130)[:ticks])
+
+
+def check_pair_stored():
+    """FWD_RD_END of two words and an END: stored as before."""
+    good = command(0xAA00, 0x1234)
+    expect("pair, stored", looped(0x7021, [0xAA00, 0x1234], good), (0, 2))
+    bad = [0] + bits(0xAA00) + bits(0x1234)[:16] + [0] + [1] * 18
+    expect("pair, check error", looped(0x7021, [0xAA00, 0x1234], bad), (8, 1))
+
+
+def check_pairs_follow():
+    """Two forwards with both, looped: ENDs behind each, the second start bit at once; then the queue is empty."""
+    line = command(0xAA01, 0x5555) + [1] * 36 + command(0xAAF0) + [1] * 18
+    for delay in (0, 5, 40):
+        s = cleared()
+        offer(s, 0x5042, 0xAA01, 0x5555)
+        offer(s, 0x7020, 0xAAF0)
+        out = s.ticks(looped_back(line, delay, len(line) + 40))
+        faces, fifo = s.read(8), s.read(10)
+        notes = [offer(s, BOTH, 3) for _ in range(4)]
+        ninth = s.word(ENDS)
+        s.run()
+        expect(f"pairs, delay {delay}", s.sout(out), line + [1] * 40)
+        expect(f"pairs, delay {delay}: read", (s.sdo(faces), s.sdo(fifo)), (0, 1))
+        expect(f"pairs, delay {delay}: queue", [s.note(e) for e in notes + [ninth]], [0] * 4 + [9])
+
+
+def starved(ticks, sin, *more, fill=6):
+    """Two words and two ENDs, but one word comes: note 13 at tick 19, its 1s to tick 36. After tick 19 the host gives the late word, clears
+    the flags and queues so many ENDs; after so many ticks one forward more. Its note; IFST before it; a soft reset's note before it."""
+    answers = []
+    for ask in ("more", "reset"):
+        s = cleared()
+        s.write(3, 0)
+        s.word(0x5042, 0xAA00)
+        out = s.ticks(sin[:19])
+        late = s.word(0x1111)
+        s.word(crc(0x5042, 0xAA00, 0x1111))
+        s.answer()
+        s.write(7, 0x8000)
+        if ask == "reset":
+            s.write(5, 4)                   # so that nothing begins behind
+        filled = [offer(s, ENDS) for _ in range(fill)]
+        out += s.ticks(sin[19:ticks])
+        faces = s.read(8)
+        last = s.word(*more) if ask == "more" else s.reset()
+        s.run()
+        expect("starved pair: SOUT", s.sout(out), (command(0xAA00) + [1] * ticks)[:ticks])
+        expect("starved pair: notes", [s.note(e) for e in out[:19] + [late] + filled], [0] * 18 + [13, 5] + [0] * fill)
+        answers.append(s.note(last))
+    return answers[0], s.sdo(faces), answers[1]
+
+
+def check_pair_underflow():
+    """Note 13 ends both, no extra ENDs: with the 1 of tick 36 the words are sent and the ENDs' place is freed.
+
+    Straight back END is read at tick 35 (0xAA00 ends in 0).
+    """
+    never, back, other = [1] * 60, command(0xAA00) + [1] * 60, command(0xAA02) + [1] * 60
+    slow = [1] * 5 + back                   # END read at tick 40
+    for name, sin, ticks, more, want in (
+            ("never", never, 35, (ENDS,), (9, 0, 11)), ("never", never, 36, (ENDS,), (0, 0, 0)), ("never", never, 36, (BOTH, 1), (9, 0, 0)),
+            ("back", back, 34, (ENDS,), (9, 0, 11)), ("back", back, 35, (ENDS,), (9, 0, 11)), ("back", back, 36, (BOTH, 1), (0, 0, 0)),
+            ("other", other, 35, (ENDS,), (9, 0, 11)), ("other", other, 36, (BOTH, 1), (0, 2, 0)),
+            ("slow", slow, 36, (ENDS,), (0, 0, 0)), ("slow", slow, 39, (BOTH, 1), (9, 0, 0)), ("slow", slow, 40, (BOTH, 1), (0, 0, 0))):
+        expect(f"starved pair, {name}, tick {ticks}, then {more[0]:04X}", starved(ticks, sin, *more), want)
+    # seven places with the pair: at tick 35 no two are free, at tick 36 two, read back or not
+    for ticks, want in ((35, 9), (36, 0)):
+        expect(f"starved pair, seven places, tick {ticks}", starved(ticks, never, BOTH, 1, fill=5)[0], want)
+
+
+def check_pair_cleared():
+    """One word and two ENDs, and another pair behind: a transmit clear takes all places, and one END is owed from the next tick on."""
+    line = command(0xAAF0) + [1] * 36
+    for ticks in (1, 10, 18, 19, 30, 35, 36, 37, 54, 71):
+        for delay in (0, None):
+            s = cleared()
+            offer(s, 0x5041, 0xAAF0)
+            offer(s, BOTH, 0x5555)
+            sin = looped_back(line, delay, ticks)
+            before = s.ticks(sin)
+            s.write(3, 0x803F)
+            fifo = s.read(9)
+            owed = s.ticks([1] * 17)
+            busy = s.reset()
+            owed += s.ticks([1])
+            notes = [offer(s, BOTH, 0x8000) for _ in range(4)]
+            out = s.ticks([1] * 2)
+            ninth = s.word(ENDS)
+            s.run()
+            name = f"pair cleared after tick {ticks}, delay {delay}"
+            expect(name + ": SOUT", s.sout(before + owed + out), line[:ticks] + [1] * 18 + [0, 1])
+            expect(name + ": empty", (s.sdo(fifo), s.note(busy)), (0, 11))
+            expect(name + ": eight free", [s.note(e) for e in notes + [ninth]], [0] * 4 + [9])
+
+
+def check_pair_after_underflow():
+    """Note 13 ended a command, by its own END or by a clear's: the next one has its extra ENDs."""
+    line = command(0xAAF0) + [1] * 36
+    for clears, owed in ((False, 17), (True, 18)):
+        for ticks, want in ((71, 11), (72, 0)):
+            s = cleared()
+            s.write(3, 0)
+            s.word(0x5042, 0xAA00)
+            s.ticks([1] * 19)
+            s.word(0x1111, crc(0x5042, 0xAA00, 0x1111))
+            s.answer()
+            s.write(7, 0x8000)
+            if clears:
+                s.write(3, 0x8000)
+            offer(s, 0x5041, 0xAAF0)
+            out = s.ticks([1] * (owed + ticks))
+            reset = s.reset()
+            s.run()
+            expect(f"pair after an underflow, cleared {clears}, {ticks}", (s.sout(out), s.note(reset)), ([1] * owed + line[:ticks], want))
+
+
+def check_pair_busy():
+    """Notes 10 and 11 from the first bit to the last 1 of the ENDs (tick 72); they change nothing of it, nor does FAILSAFE or a flag."""
+    line = command(0xAAF0) + [1] * 36 + command(0x5555)
+    for ticks in (1, 30, 35, 36, 37, 54, 71, 72):
+        for trouble in ("none", "FAILSAFE", "flag"):
+            s = cleared()
+            offer(s, 0x5041, 0xAAF0)
+            out = s.ticks(line[:1])
+            if trouble == "FAILSAFE":
+                s.write(5, 4)
+            elif trouble == "flag":
+                s.word(0xE000, 0, 0xFFFF, 0xFFFF)  # wrong CRC word: note 6, SPI_CRC
+            out += s.ticks(line[1:ticks])
+            control, reset = s.write(2, 0x1234), s.reset()
+            offer(s, 0x3000, 0x5555)
+            out += s.ticks((line + [1] * 20)[ticks:108])
+            s.run()
+            name = f"pair busy after tick {ticks}, {trouble}"
+            expect(name, (s.note(control), s.note(reset)), (10, 11) if ticks < 72 else (0, 0))
+            expect(name + ": SOUT", s.sout(out), line[:72] + [1] * 36 if trouble == "FAILSAFE" else line)
+
+
+def check_pair_longest():
+    """32 words and 127 ENDs: 19 + 17 x 32 + 18 x 127 = 2,849 ticks."""
+    words = range(0x8000, 0x8020)
+    for ticks, want in ((2848, 11), (2849, 0)):
+        s = cleared()
+        offer(s, 0x7FFF, *words)
+        out = s.ticks([1] * ticks)
+        reset = s.reset()
+        s.run()
+        expect(f"longest pair, {ticks}", (s.sout(out), s.note(reset)), ((command(*words) + [1] * 18 * 127)[:ticks], want))
+
+
+def check_reset_takes_pairs():
+    s = Script()                            # POR is up: all wait
+    notes = [offer(s, BOTH, 1) for _ in range(4)]
+    reset, fifo = s.reset(), s.read(9)
+    notes += [offer(s, BOTH, 1) for _ in range(4)]
+    ninth = s.word(ENDS)
+    s.run()
+    expect("pairs reset", [s.note(e) for e in [*notes, reset, ninth]], [0] * 9 + [9])
+    expect("pairs reset: TXFFST", s.sdo(fifo), 0)
+
+
 # ---- clock ----
 def check_clock():
     s = cleared()

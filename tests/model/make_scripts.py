@@ -1,7 +1,7 @@
 #!/usr/bin/env python3
 """make_scripts.py SEED EVENTS > file.cwb
 
-Meaningful random CWB scripts for the bridge of document 01 with item 2 of 02, the same for the same seed.
+Meaningful random CWB scripts for the bridge of document 01 with items 2 and 3 of 02, the same for the same seed.
 The SIN bits are mostly a loop-back of SOUT, so the C model is driven through a pipe
 (`bridge_model -i`), which also tells the SOUT bit of the next tick. Nothing the model says
 decides more than SIN bits and a few waits: a script is good for any other implementation.
@@ -18,6 +18,8 @@ HERE = os.path.dirname(os.path.abspath(__file__))
 POWER, WORD, RELEASE, TICK, CLOCK = range(5)
 TELLING = [0xFFFF, 0x0000, 0x7FFF, 0xFFFE, 0x8000, 0x0001, 0xFFFD, 0xAAF0, 0xAA0F]
 AT_POWER_UP = 0x003F  # TXFFLVL
+PLACES = 8
+END = 18  # ticks of one END, extra or not
 
 
 def crc16(words):
@@ -68,7 +70,7 @@ class Bench:
 
 
 class Line:
-    """Makes SIN from SOUT: loop with delay, flips, added words, stuck, its own commands."""
+    """Makes SIN from SOUT: loop with delay, flips, changed or added words, stuck, its own commands."""
 
     def __init__(self, rng):
         self.rng = rng
@@ -82,8 +84,8 @@ class Line:
 
     def choose(self):
         rng = self.rng
-        mode = rng.choices(["loop", "flip", "insert", "stuck1", "stuck0", "own", "noise"],
-                           [60, 12, 12, 3, 2, 8, 3])[0]
+        mode = rng.choices(["loop", "flip", "change", "insert", "stuck1", "stuck0", "own", "noise"],
+                           [60, 12, 6, 12, 3, 2, 8, 3])[0]
         delay = rng.choice([0, 0, 1, 2, 17, 18, 19, rng.randint(0, 40)])
         self.set(mode, delay, rng.choice([0.003, 0.01, 0.03]))
 
@@ -106,8 +108,10 @@ class Line:
 
     def looped(self, sout):
         after_word = self.follow(sout)
+        # a 0, so not in an END, and before the word's last bit: another word is read, with no check error
+        changed = self.mode == "change" and sout == 0 and 1 <= self.pos <= 15 and self.rng.random() < self.rate
         if not (self.run > 18 and len(self.fifo) > self.delay):
-            self.fifo.append(sout)
+            self.fifo.append(1 if changed else sout)
         if self.mode == "insert" and after_word and self.rng.random() < 0.3:
             for _ in range(self.rng.choice([1, 1, 1, 2, 4])):
                 self.fifo.extend(word_bits(self.rng.choice(TELLING + [0x1234, 0xC0DE])))
@@ -274,6 +278,54 @@ class Host:
         made = max(0, at - 64) * period
         yield "t", 40 if self.bench.blocked else max(40, 17 * min(at, count) + 40 - made)
 
+    # ---- forwards by the places they need (02 item 3) ----
+    def pair(self, count=None, ends=None):
+        """Words and extra ENDs: two places."""
+        rng = self.rng
+        yield ("r",)
+        yield from self.forward(rng.randint(4, 7), count or rng.choice([1, 1, 1, 2, 3]), ends or rng.choice([1, 1, 1, 2, 3]), wrong=0, cut=0)
+
+    def single(self):
+        """Words or extra ENDs: one place."""
+        rng = self.rng
+        number, count, ends = rng.choice([(2, 1, 0), (3, 2, 0), (4, 0, 1), (5, 0, 1), (5, 0, 2), (rng.randint(4, 7), 1, 0)])
+        yield ("r",)
+        yield from self.forward(number, count, ends, wrong=0, cut=0)
+
+    def fill(self, used, full):
+        """From so many places used to so many, mostly by pairs."""
+        while used < full:
+            both = full - used > 1 and self.chance(0.8)
+            yield from self.pair() if both else self.single()
+            used += 1 + both
+
+    def quiet(self, levels):
+        """The line gives back what it gets, soon, late, changed or never; queue and TX empty, sender idle, mostly the reader too."""
+        rng = self.rng
+        mode = rng.choice(["loop", "loop", "loop", "loop", "change", "change", "change", "stuck1", "insert", "own"])
+        self.line.set(mode, rng.choice([0, 0, 0, 0, 1, 2, 17, 18, 19, 36, 40, 60]), 0.05)
+        yield from self.start_over(levels)
+        yield "t", 40
+
+    def held(self):
+        """Nothing starts: by POR, in FAILSAFE, or because no tick comes."""
+        how = self.rng.choice(["power", "force", "no tick"])
+        if how == "power":
+            yield "p", 1
+        elif how == "force":
+            yield from self.reg_write(5, [4], wrong=0, cut=0)
+
+    def let_go(self):
+        yield ("r",)
+        yield from self.reg_write(5, [1, 0, 0x8000], wrong=0, cut=0)
+
+    def into_pair(self, words, ends):
+        """Ticks from a pair's first bit into its words, their END, up to the edge between or into the extra ENDs."""
+        rng = self.rng
+        sent = 1 + 17 * words + END
+        return rng.choice([rng.randint(1, sent - END), sent - rng.randint(1, END), sent - rng.randint(1, END), sent - 1, sent, sent, sent,
+                           sent + 1, sent + rng.randint(1, END * ends), sent + END * ends - 1, sent + END * ends])
+
     # ---- programs, one a phase ----
     def one_frame(self):
         rng = self.rng
@@ -402,6 +454,107 @@ class Host:
                 yield from self.observe()
         yield from self.recover()
         yield "t", rng.choice([40, 300, 600])
+
+    def pair_queue(self):
+        """Queue filled by forwards with both; then more, with one place free, none or two."""
+        rng = self.rng
+        while True:
+            yield from self.quiet([AT_POWER_UP, 0x01FF, 0])
+            yield from self.held()
+            yield from self.fill(0, rng.choice([6, 7, 7, 7, 7, 8, 8]))
+            for _ in range(rng.randint(1, 2)):
+                yield from rng.choice([self.pair, self.pair, self.single])()
+            if self.chance(0.3):
+                yield from self.observe()
+            if self.chance(0.3):
+                yield ("r",)
+                yield from self.soft_reset(wrong=0, cut=0)
+            yield from self.let_go()
+            yield "t", rng.choice([20, 60, 120])
+
+    def pair_freed(self):
+        """A full queue with a pair in front, ticks up to one that frees a place or near it, and more forwards."""
+        rng = self.rng
+        while True:
+            yield from self.quiet([AT_POWER_UP, 0x01FF, 0])
+            yield from self.held()
+            words, ends = rng.choice([1, 1, 2]), rng.choice([1, 2, 3])
+            yield from self.pair(words, ends)
+            yield from self.fill(2, rng.choice([PLACES - 1, PLACES, PLACES]))
+            yield from self.let_go()
+            yield "t", 1 + 17 * words + END + rng.choice([-1, 0, 0, 1, END * ends - 1, END * ends, rng.choice([-1, 0, 1]) + self.line.delay])
+            for _ in range(rng.randint(1, 3)):
+                yield from rng.choice([self.pair, self.single])()
+                yield "t", rng.choice([0, 0, 1, END, END * ends])
+            if self.chance(0.5):
+                yield from self.observe()
+
+    def pair_trouble(self):
+        """Something comes in the middle of a pair; its bits, and what waits behind it, then."""
+        rng = self.rng
+        while True:
+            yield from self.quiet([AT_POWER_UP, 0x01FF])
+            words, ends = rng.choice([1, 1, 2, 3]), 127 if self.chance(0.03) else rng.choice([1, 1, 2, 5])
+            yield from self.pair(words, ends)
+            for _ in range(rng.choice([0, 1, 1, 2])):
+                yield from rng.choice([self.pair, self.single])()
+            yield "t", self.into_pair(words, ends)
+            yield from self.trouble()
+            yield "t", rng.choice([1, END - 1, END, END * (1 + ends) + 2])
+            yield from rng.choice([self.observe, self.pair, self.single, self.let_go])()
+            yield "t", rng.choice([1, 40, 80])
+
+    def trouble(self):
+        """Clear, reset, FAILSAFE or a flag."""
+        rng = self.rng
+        yield ("r",)
+        kind = rng.choices("trdfwclsp", [6, 3, 3, 8, 4, 3, 3, 2, 1])[0]
+        if kind == "t":
+            yield from self.reg_write(3, [rng.choice([0x81FF, 0x803F])], wrong=0, cut=0)
+        elif kind == "r":
+            yield from self.soft_reset(wrong=0, cut=0)
+        elif kind == "d":
+            yield from self.reg_write(2, [rng.getrandbits(16)], wrong=0, cut=0)
+        elif kind == "f":
+            yield from self.reg_write(5, [4], wrong=0, cut=0)
+        elif kind == "w":
+            yield from self.reg_write(1, [0x0100], wrong=0, cut=0)
+            yield "c", rng.choice([1, 2])
+            yield from self.reg_write(1, [0], wrong=0, cut=0)
+        elif kind == "c":
+            yield "c", rng.choice([4, 5, 6])
+        elif kind == "l":
+            yield from rng.choice([self.single, self.pair])()
+            yield from self.cut_released()
+        elif kind == "s":
+            yield from self.soft_reset(wrong=1, cut=0)
+        else:
+            yield from self.fill(0, PLACES + 2)
+
+    def pair_underflow(self):
+        """A forward with both whose words come too late; more forwards while its END goes out, and about its last 1."""
+        rng = self.rng
+        while True:
+            yield from self.quiet([0])
+            number, count = rng.choice([5, 5, 7]), rng.randint(2, 5)
+            command = number << 12 | rng.choice([1, 2, 3]) << 5 | (count if number == 5 else count - 1)
+            early = rng.randint(1, count - 1)
+            words = [command] + self.some_words(count)
+            for word in words[:1 + early]:
+                yield "w", word
+            ones = rng.choice([0, 1, rng.randint(1, 16), rng.randint(1, 16), END - 1, END, END + 2])
+            yield "t", 1 + 17 * early + ones
+            for word in words[1 + early:] + [crc16(words)] if self.chance(0.85) else []:
+                yield "w", word
+            yield ("r",)
+            if self.chance(0.85):
+                yield from self.reg_write(7, [0x8000], wrong=0, cut=0)
+            yield from self.fill(2, rng.choice([2, PLACES - 2, PLACES - 1, PLACES - 1, PLACES, PLACES, PLACES, PLACES + 1]))
+            if self.chance(0.3):
+                yield from self.pair()
+            yield "t", END - ones + rng.choice([-1, -1, 0, 0, 1, 30]) if ones < END else 1
+            yield from rng.choice([self.pair, self.single, self.observe])()
+            yield "t", rng.choice([0, 1, 40, 80])
 
     def receive_fill(self):
         self.wrong = self.cut = 0
@@ -554,13 +707,15 @@ class Host:
                 yield ("r",)
 
 
-DECK = (["traffic"] * 7 + ["clean_forwards"] * 8 + ["overflow"] * 2 + ["underflow"] * 4
+DECK = (["traffic"] * 7 + ["clean_forwards"] * 8 + ["overflow"] * 3 + ["underflow"] * 4
         + ["near_level"] * 2 + ["long_forward"] + ["queue"] * 4 + ["receive_fill"] + ["registers"] * 3 + ["resets"] * 2
         + ["malformed"] + ["watch"] * 3 + ["watchdog"] * 2 + ["failsafe"] * 2 + ["clears"] * 4
-        + ["power"] + ["chaos"])
+        + ["power"] + ["chaos"] + ["pair_queue"] * 4 + ["pair_freed"] * 6 + ["pair_trouble"] * 7 + ["pair_underflow"] * 5)
 SPAN = {"clean_forwards": 900, "overflow": 1500, "receive_fill": 6500, "queue": 900, "power": 250, "chaos": 150,
-        "malformed": 250, "near_level": 2000, "long_forward": 12000}
-PACED = ("overflow", "queue", "near_level", "long_forward")  # with hardly a tick that the program does not ask for
+        "malformed": 250, "near_level": 2000, "long_forward": 12000, "pair_queue": 600, "pair_freed": 900, "pair_trouble": 700,
+        "pair_underflow": 700}
+# with hardly a tick that the program does not ask for
+PACED = ("overflow", "queue", "near_level", "long_forward", "pair_queue", "pair_freed", "pair_trouble", "pair_underflow")
 
 
 class Maker:

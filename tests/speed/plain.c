@@ -54,23 +54,32 @@ static bool registers_hold(const struct bridge *b)
         && (b->rx.count == 0 ? b->drdy : !(b->rx.count > b->rx_level && b->drdy));
 }
 
-/* As it was queued, with something to send. */
-static bool waits(const struct place *p)
+/* As it was queued. */
+static bool untouched(const struct place *p)
 {
-    return p->words + p->ends > 0 && !p->compare && !p->check_error && !p->sent && !p->read && p->sent_crc == 0xFFFF
-        && p->read_crc == 0xFFFF;
+    return !p->compare && !p->check_error && !p->sent && !p->read && p->sent_crc == 0xFFFF && p->read_crc == 0xFFFF;
 }
 
-/* Sent, and its reading awaited: another has begun behind it. */
-static bool awaits(const struct place *p)
+/* Words, or ENDs (02 item 3): these are not read back, and sent they are no place any more. */
+static bool place_holds(const struct place *p)
 {
-    return p->sent && !p->read && p->words > 0;
+    if (p->words > 0)
+        return p->words <= WORDS_MOST && p->ends == 0 && !p->of_pair;
+    return p->ends > 0 && p->ends <= ENDS_MOST && !p->store && untouched(p);
 }
 
-/* The youngest that has begun is not one to be freed. */
-static bool unfinished(const struct place *p)
+/* Of those that have begun: each but the youngest is sent, and its reading awaited; the youngest is not one to be freed. */
+static bool begun_holds(const struct place *p, bool youngest)
 {
-    return !(p->sent && (p->read || p->words == 0));
+    return youngest ? !(p->sent && p->read) : p->words > 0 && p->sent && !p->read;
+}
+
+/* ENDs of a pair that have not begun stand behind their words, and these are not sent: with their last bit the ENDs begin. */
+static bool waiting_holds(const struct bridge *b, unsigned i)
+{
+    const struct place *p = &b->place[i];
+    bool behind_words = i > 0 && b->place[i - 1].words > 0 && !b->place[i - 1].sent;
+    return !p->begun && untouched(p) && (!p->of_pair || behind_words);
 }
 
 /* Those that have begun stand first. How many they are, and the words that the others will take. */
@@ -84,28 +93,24 @@ static bool places_hold(const struct bridge *b, unsigned *begun, long *waiting)
         n++;
     for (unsigned i = 0; i < b->places; i++) {
         const struct place *p = &b->place[i];
-        if (p->words > WORDS_MOST || p->ends > ENDS_MOST)
+        if (!place_holds(p) || !(i < n ? begun_holds(p, i + 1 == n) : waiting_holds(b, i)))
             return false;
-        if (i < n) {
-            if (i + 1 < n ? !awaits(p) : !unfinished(p))
-                return false;
-        } else {
-            if (p->begun || !waits(p))
-                return false;
+        if (i >= n)
             sum += p->words;
-        }
     }
     *begun = n;
     *waiting = sum;
     return true;
 }
 
-/* The sender is at the youngest place that has begun, until that is sent, or at an END that belongs to none. */
+/* The sender is at the youngest place that has begun, until that is sent, or at an END that belongs to none. Extra ENDs are
+   the one thing longer than an END; note 13 is remembered through the END of its words. */
 static bool sender_holds(const struct bridge *b, unsigned begun)
 {
     const struct sender *s = &b->sender;
     bool busy = begun > 0 && !b->place[begun - 1].sent;
-    if (s->place != (busy ? (int)begun - 1 : -1))
+    bool ends = busy && b->place[begun - 1].words == 0;
+    if (s->place != (busy ? (int)begun - 1 : -1) || (s->starved && (s->mode != SEND_ONES || !busy || ends)))
         return false;
     switch (s->mode) {
     case SEND_IDLE:
@@ -113,7 +118,7 @@ static bool sender_holds(const struct bridge *b, unsigned begun)
     case SEND_WORDS:
         return busy && s->bit < GROUP_BITS && s->words_left > 0 && s->words_left <= b->place[begun - 1].words;
     default:
-        return s->ones_left > 0 && s->ones_left <= END_BITS * (busy ? 1 + b->place[begun - 1].ends : 1);
+        return s->ones_left > 0 && s->ones_left <= END_BITS * (ends ? b->place[begun - 1].ends : 1);
     }
 }
 
@@ -174,8 +179,17 @@ static bool frame_holds(const struct frame *f)
     }
 }
 
-/* Every word of TX has a command that will take it, and only the youngest place can starve. An open forward is
-   marked as blocked while a blocking flag is up. */
+/* The words that the youngest command will still take; its ENDs, if it has both, stand behind them. */
+static long youngest_takes(const struct bridge *b, long sending_now)
+{
+    unsigned places = b->places;
+    if (places > 0 && b->place[places - 1].of_pair)
+        places--;
+    return places > 0 && !b->place[places - 1].begun ? (long)b->place[places - 1].words : sending_now;
+}
+
+/* Every word of TX has a command that will take it, and only the youngest can starve. An open forward is marked as
+   blocked while a blocking flag is up. */
 static bool ledger_holds(const struct bridge *b, long waiting)
 {
     const struct frame *f = &b->frame;
@@ -187,9 +201,7 @@ static bool ledger_holds(const struct bridge *b, long waiting)
     long to_come = owes ? (long)f->cmd.data - (long)f->came : 0;
     long mine = forward && !f->released && !f->blocked ? (long)f->stored : 0;
     long sending_now = s->mode == SEND_WORDS ? (long)s->words_left - (s->bit > 0) : 0;
-    bool waits = b->places > 0 && !b->place[b->places - 1].begun;
-    long last = waits ? (long)b->place[b->places - 1].words : sending_now;
-    return (long)b->tx.count + to_come == sending_now + waiting + mine && to_come <= last;
+    return (long)b->tx.count + to_come == sending_now + waiting + mine && to_come <= youngest_takes(b, sending_now);
 }
 
 static bool rules_hold(const struct bridge *b)

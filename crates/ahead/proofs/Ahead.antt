@@ -7,6 +7,7 @@ use Prim.Native.Nat.{ℕ, _+_, _-_, _/_, _≤_, _<_}
 use native.Mathlib.Omega.{arith}
 use lib.Dec.{ltb, eqb}
 use borrow.Author.Tests.{ltb-true, eqb-true, lt-ltb, le-ltb}
+use Rattle.state.specs.Queue.{speaks}
 use Rattle.base.specs.Pick.{pick, and-l, and-r}
 use Rattle.base.specs.Truth.{never}
 use Rattle.command.specs.Layouts.{Layout}
@@ -142,7 +143,7 @@ module _ (l : Layout) (fits : LayoutFit l) (n : ℕ) (p : 0 < n) where
 piece-started : (u : Piece) (s : Sender) (b : Bool) (q : Place) → u ≡ StartBit → pieceSound u s b q ≡ true → (s .gone ≡ 1) × (0 < s .left)
 unfolding pieceSound
 piece-started u s b q e h =
-    let t : (eqb (s .gone) 1 && eqb (s .left) (q .words) && ltb 0 (q .words) && eqb (s .ends) (q .ends + 1) && b) ≡ true = rw e at h in
+    let t : (eqb (s .gone) 1 && eqb (s .left) (q .words) && speaks q && eqb (s .ends) (q .ends + 1) && b) ≡ true = rw e at h in
     let g : s .gone ≡ 1 = eqb-true _ _ (search (and-l, and-r) depth 30) in
     let w : s .left ≡ q .words = eqb-true _ _ (search (and-l, and-r) depth 30) in
     let x : 0 < q .words = ltb-true _ _ (search (and-l, and-r) depth 30) in

@@ -174,4 +174,4 @@ what-to-write l fits c e p es sin a = alone-ahead l fits c e p es sin a
 pub no-later : (l : Layout) → NoLater l
 unfolding planOf planned plannedIn dataWord forwardWord forwarded guard asksStore pick
 no-later l c words ends got sum mine reads w h g v r q =
-    rw (h, lt-ltb got words g, le-leb (level c + 1) (inTx c + 1) (omega (arith, v)), lt-leb txSize (inTx c) r, lt-leb places (c .bridge .sending .queue .used) q) refl
+    rw (h, lt-ltb got words g, le-leb (level c + 1) (inTx c + 1) (omega (arith, v)), lt-leb txSize (inTx c) r, q) refl

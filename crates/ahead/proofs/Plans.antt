@@ -71,7 +71,7 @@ module _ (b : Bridge) where
 
   orderly-granted : (f : Fwd) (at : Progress) (blocked : Bool) (w : Wish)
       → (w .release ≡ true → at .got < f .words → b .control .regs .txfflvl + 1 ≤ ringAfter (b .sending .tx) (w .store) .count)
-      → OrderlyBy b (forwarded b f at (guard blocked (b .sending .tx .count) (b .sending .queue .used) w))
+      → OrderlyBy b (forwarded b f at (guard blocked (b .sending .tx .count) (b .sending .queue) w))
   unfolding forwarded guard
   orderly-granted f at blocked w h =
       pick-keeps (λ (g : Granted). OrderlyBy b (forwarded b f at g)) _ _ _ (λ t. tt)

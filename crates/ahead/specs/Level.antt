@@ -10,7 +10,7 @@ use Rattle.state.specs.declared.Phase.the-variants.{Collecting}
 use Rattle.state.specs.Rings.{txSize}
 use Rattle.state.specs.declared.Deed.the-variants.{Enqueue}
 use Rattle.state.specs.declared.Place.{Place}
-use Rattle.state.specs.Queue.{places, newPlace, waiting, wordsOf}
+use Rattle.state.specs.Queue.{newPlace, lacks, waiting, wordsOf}
 use Rattle.next.specs.Next.{mayStart, choose, isStart}
 use Rattle.events.specs.declared.Event.{Event}
 use Rattle.events.specs.declared.Event.the-variants.{Power, Word, Release, Tick, Clock as ClockReading}
@@ -63,9 +63,9 @@ abbrev pub WhatToWrite : Layout → Type 0
 WhatToWrite l = (c : Config) (e : Event) (q : Place) (es : List Event) (sin : Bool) → Alone l c e q es sin → LevelAhead l c e q es sin
 
 -- AND NO LATER. A data word of a plain forward, neither blocked nor queued before, with which TX holds TXFFLVL + 1 words queues it, where TX has
--- room for that word and the queue a place. 01 Frames
+-- room for that word and the queue as many places as it needs. 01 Frames; 02 item 3
 abbrev pub NoLater : Layout → Type 0
 NoLater l = (c : Config) (words ends got sum mine : ℕ) (reads : Bool) (w : ℕ)
     → c .bridge .frame .phase ≡ Collecting (Forward false words ends reads) got sum mine false false → got < words
-    → level c + 1 ≤ inTx c + 1 → inTx c < txSize → c .bridge .sending .queue .used < places
+    → level c + 1 ≤ inTx c + 1 → inTx c < txSize → lacks (c .bridge .sending .queue) (newPlace words ends reads) ≡ false
     → planOf l c (Word w) .deed ≡ Enqueue (newPlace words ends reads)

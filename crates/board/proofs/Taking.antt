@@ -14,7 +14,7 @@ use Rattle.line.specs.Format.{Words}
 use Rattle.registers.specs.Registers.{isNormal, blocking}
 use Rattle.registers.specs.declared.Mode.{Mode}
 use Rattle.registers.specs.declared.Mode.the-variants.{Normal, Init, Failsafe}
-use Rattle.state.specs.Queue.{places}
+use Rattle.state.specs.Queue.{places, inUse}
 use Rattle.state.specs.Rings.{txSize}
 use Rattle.state.specs.declared.Phase.{Phase}
 use Rattle.state.specs.declared.Phase.the-variants.{Idle, Collecting, Answering, Discarding}
@@ -65,7 +65,7 @@ pub taken-takes : (c : Config) (slot : ℕ) (ws : List ℕ) → Words ws → isT
 unfolding hasRoom
 taken-takes c slot ws small e =
     let f : Finds (length (c .tx)) (length (c .rx)) (c .bridge) slot (length ws) = taken-facts _ _ (c .bridge) slot (length ws) e in
-    let two : Bool = leb (c .bridge .sending .queue .used + 2) places in
+    let two : Bool = leb (inUse (c .bridge .sending .queue) + 2) places in
     let fits : Bool = leb (c .bridge .sending .tx .count + length ws + 1) txSize in
     record {
       ready = ready-open c (f .ready);

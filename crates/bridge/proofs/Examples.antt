@@ -3,6 +3,7 @@ use mathlib.Core.Path.{_≡_, refl}
 use mathlib.Core.Bool.{Bool, true, false}
 use mathlib.Core.List.{List, [], _∷_}
 use Prim.Native.Nat.{ℕ}
+use Rattle.state.specs.Queue.{placesOf, placesIn}
 use Rattle.base.specs.Pick.{pick}
 use Rattle.command.specs.Layouts.{ours}
 use Rattle.line.specs.Format.{pieceLength}

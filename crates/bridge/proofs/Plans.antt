@@ -5,6 +5,7 @@ use mathlib.Core.Bool.{Bool, true, false, not, _||_}
 use mathlib.Core.List.{List, [], _∷_}
 use Prim.Native.Nat.{ℕ, zero, suc, _+_}
 use lib.Dec.{eqb}
+use Rattle.state.specs.declared.Queue.{Queue}
 use Rattle.base.specs.Pick.{pick, pick-keeps}
 use Rattle.command.specs.Layouts.{Layout}
 use Rattle.command.specs.declared.Command.{Command}
@@ -78,10 +79,10 @@ module _ (b : Bridge) where
   still d n o q = record { note = o; loud = λ h. cc; calm = λ h k. h }
 
   -- notes 5, 8 and 9
-  tame-guard : (blocked : Bool) (count used : ℕ) (w : Wish)
-      → Tame b (faulted (b .control) (guard blocked count used w .note)) (guard blocked count used w .deed) (guard blocked count used w .note)
+  tame-guard : (blocked : Bool) (count : ℕ) (q : Queue) (w : Wish)
+      → Tame b (faulted (b .control) (guard blocked count q w .note)) (guard blocked count q w .deed) (guard blocked count q w .note)
   unfolding guard faulted ofHost refuses faults clears
-  tame-guard blocked count used w =
+  tame-guard blocked count q w =
       pick-keeps (λ (g : Granted). Tame b (faulted (b .control) (g .note)) (g .deed) (g .note)) _ _ _ (λ t. still _ _ refl refl)
       (λ t. pick-keeps (λ (g : Granted). Tame b (faulted (b .control) (g .note)) (g .deed) (g .note)) _ _ _
       (λ u. record { note = refl; loud = λ h. refl; calm = λ h k. cc })

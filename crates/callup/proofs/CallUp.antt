@@ -12,7 +12,7 @@ use Rattle.crc16.proofs.Laws.{crc-lt}
 use Rattle.command.specs.Layout.{decodeOurs}
 use Rattle.command.specs.Layouts.{Layout, ours}
 use Rattle.command.specs.declared.Command.the-variants.{Forward}
-use Rattle.state.specs.Queue.{newPlace, queued}
+use Rattle.state.specs.Queue.{newPlace, queued, inUse}
 use Rattle.state.specs.declared.Queue.{Queue}
 use Rattle.frames.specs.Frames.{frameOf}
 use Rattle.frames.specs.Orders.{commandWord}
@@ -28,7 +28,7 @@ use Rattle.order.specs.Premises.{Premises}
 use Rattle.callup.specs.CallUp.{vsync, given, callUp, sumBy, Speaks}
 use Rattle.callup.specs.Taken.{Takes, AllDone}
 use Rattle.callup.proofs.Taken.{AllWrite, Taken}
-use Rattle.callup.proofs.Frame.{logOf, Ran, same-then, ran-frame}
+use Rattle.callup.proofs.Frame.{logOf, Ran, same-then, ran-frame, one-more}
 
 -- A run of two parts.
 pub end-append : (l : Layout) (c : Config) (a b : List Event) → endOf l c (a ++ b) ≡ endOf l (endOf l c a) b
@@ -83,7 +83,8 @@ module _ (l : Layout) (fits : LayoutFit l) (speaks : Speaks l) where
       = ran-frame l fits speaks ws c D s (t .ready .unblocked) (t .ready .idle-frame) (t .some) (t .most) (omega (arith, t .two-places))
       (omega (arith, t .room)) (t .sixteen) in
       let d : Config = endOf l c x in
-      let u : d .bridge .sending .queue .used ≡ c .bridge .sending .queue .used + 1 = ap (λ (q : Queue). q .used) (a .queue) in
+      let u : inUse (d .bridge .sending .queue) ≡ inUse (c .bridge .sending .queue) + 1
+      = ap (λ (q : Queue). inUse q) (a .queue) ∙ one-more (c .bridge .sending .queue) (length ws) (omega (arith, t .two-places)) (s .rules .sending .eight) in
       let b : Ran l d (D ++ (ws ∷ [])) [] (vsync ∷ []) 1 y
       = ran-frame l fits speaks (vsync ∷ []) d (D ++ (ws ∷ [])) (a .obeys) (rw (a .same .flags) (t .ready .unblocked)) (a .idle-frame) (omega arith)
       (omega arith) (omega (arith, t .two-places)) (omega (arith, t .room, a .count)) (omega arith, tt) in

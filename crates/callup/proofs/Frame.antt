@@ -3,13 +3,15 @@
 use mathlib.Core.Path.{_≡_, refl, ap, _∙_}
 use mathlib.Core.Bool.{Bool, true, false}
 use mathlib.Core.List.{List, [], _∷_, _++_, append-assoc, append-nil}
-use Prim.Native.Nat.{ℕ, suc, _+_, _≤_, _<_}
+use Prim.Native.Nat.{ℕ, suc, _+_, _≤_, _<_, _-_}
 use native.Mathlib.Omega.{arith}
 use lib.Dec.{eqb}
 use lib.ListN.{length}
 use lib.Seq.{getD-set-same, getD-set-other, set-out}
 use native.Mathlib.Decide.{ℕ-discrete, decLe}
 use borrow.Author.Tests.{lt-ltb, le-ltb, lt-leb, eq-eqb, ne-eqb}
+use Rattle.queue.proofs.Laws.{has-record}
+use Rattle.kept.proofs.InUse.{one-endless, in-use-queued}
 use Rattle.base.specs.Pick.{pick, pick-keeps}
 use Rattle.base.specs.Bits.{bit}
 use Rattle.command.specs.Layouts.{Layout}
@@ -17,7 +19,7 @@ use Rattle.command.specs.declared.Command.the-variants.{Forward}
 use Rattle.line.specs.Format.{Words}
 use Rattle.registers.specs.Registers.{blocking}
 use Rattle.registers.specs.declared.Control.{Control}
-use Rattle.state.specs.Queue.{newPlace, queued}
+use Rattle.state.specs.Queue.{newPlace, queued, inUse, lacks, placesOf}
 use Rattle.state.specs.Rings.{oldest, written, ringAfter}
 use Rattle.state.specs.Sending.{stored, done}
 use Rattle.state.specs.declared.Bridge.{Bridge}
@@ -79,6 +81,22 @@ planWith b p st d status = record {
 abbrev collecting : ℕ → ℕ → ℕ → Phase
 collecting n got sum = Collecting (Forward true n 0 false) got sum got false false
 
+-- words alone are one place
+module _ (q : Queue) (n : ℕ) (h : inUse q < 8) where
+  one-place : placesOf (newPlace n 0 false) ≡ 1
+  unfolding newPlace
+  one-place = one-endless (newPlace n 0 false) refl
+
+  one-free : lacks q (newPlace n 0 false) ≡ false
+  unfolding lacks
+  one-free = le-ltb (8 - inUse q) (placesOf (newPlace n 0 false)) (omega (arith, one-place))
+
+  pub one-record : length (q .places) ≡ 8 → q .used < 8
+  one-record l = has-record q (newPlace n 0 false) l (rw one-place (omega arith))
+
+  pub one-more : length (q .places) ≡ 8 → inUse (queued q (newPlace n 0 false)) ≡ inUse q + 1
+  one-more l = in-use-queued q (newPlace n 0 false) l (one-record l) ∙ ap (λ (k : ℕ). inUse q + k) one-place
+
 module _ (l : Layout) (b : Bridge) (x n : ℕ) (clear : blocking (b .control .flags) ≡ false) where
   plan-open : (w : ℕ) → b .frame .phase ≡ Idle → l .decode w ≡ Forward true n 0 false
       → planned l b w x ≡ planWith b (collecting n 0 (l .crcStep (l .crcStart) w)) Keep Leave false
@@ -90,12 +108,13 @@ module _ (l : Layout) (b : Bridge) (x n : ℕ) (clear : blocking (b .control .fl
   unfolding planned plannedIn dataWord forwardWord forwarded guard asksStore mineAfter enqueues clears faulted pick
   plan-word w got sum p h r = rw (p, lt-ltb got n h, lt-leb 512 (b .sending .tx .count) r) refl
 
-  plan-crc : (sum : ℕ) → b .frame .phase ≡ collecting n n sum → 0 < n → b .sending .queue .used < 8
+  plan-crc : (sum : ℕ) → b .frame .phase ≡ collecting n n sum → 0 < n → inUse (b .sending .queue) < 8
       → planned l b sum x ≡ planWith b Idle Keep (Enqueue (newPlace n 0 false)) true
   unfolding planned plannedIn crcDue forwardClosed guard asksStore faulted pick
   plan-crc sum p h u =
       let z : eqb n 0 ≡ false = ne-eqb n 0 (λ e. omega arith) in
-      rw (p, le-ltb n n (omega arith), eq-eqb sum sum refl, z, lt-leb 8 (b .sending .queue .used) u) refl
+      let v : lacks (b .sending .queue) (newPlace n 0 false) ≡ false = one-free (b .sending .queue) n u in
+      rw (p, le-ltb n n (omega arith), eq-eqb sum sum refl, z, v) refl
 
 -- Deeds that clear nothing leave the reader, the sender and TX's head.
 away-same : (r : Receiving) (d : Deed) → clears d ≡ false → clearedAway r d ≡ r
@@ -283,7 +302,7 @@ module _ (l : Layout) (fits : LayoutFit l) (speaks : Speaks l) where
       (λ t. unfold releasedIn in refl) (λ t. unfold releasedIn in refl))
 
   ran-crc : (c : Config) (D : List (List ℕ)) (mine : List ℕ) (n sum : ℕ) → Obeys c → blocking (c .bridge .control .flags) ≡ false
-      → c .bridge .frame .phase ≡ collecting n n sum → 0 < n → c .bridge .sending .queue .used < 8 → sum < 65536
+      → c .bridge .frame .phase ≡ collecting n n sum → 0 < n → inUse (c .bridge .sending .queue) < 8 → sum < 65536
       → Ran l c D mine [] n (restOf l sum [])
   unfolding restOf given sumBy endOf logBy
   ran-crc c D mine n sum s f p h u k =
@@ -328,7 +347,7 @@ module _ (l : Layout) (fits : LayoutFit l) (speaks : Speaks l) where
       }
 
   ran-rest : (ws : List ℕ) (c : Config) (D : List (List ℕ)) (mine : List ℕ) (n got sum : ℕ) → Obeys c → blocking (c .bridge .control .flags) ≡ false
-      → c .bridge .frame .phase ≡ collecting n got sum → 0 < n → got + length ws ≡ n → c .bridge .sending .queue .used < 8
+      → c .bridge .frame .phase ≡ collecting n got sum → 0 < n → got + length ws ≡ n → inUse (c .bridge .sending .queue) < 8
       → c .bridge .sending .tx .count + length ws ≤ 512 → Words ws → sum < 65536
       → Ran l c D mine ws n (restOf l sum ws)
   unfolding restOf given sumBy
@@ -351,7 +370,7 @@ module _ (l : Layout) (fits : LayoutFit l) (speaks : Speaks l) where
 
   -- a whole frame, from an idle one
   pub ran-frame : (ws : List ℕ) (c : Config) (D : List (List ℕ)) → Obeys c → blocking (c .bridge .control .flags) ≡ false
-      → c .bridge .frame .phase ≡ Idle → 1 ≤ length ws → length ws ≤ 30 → c .bridge .sending .queue .used < 8
+      → c .bridge .frame .phase ≡ Idle → 1 ≤ length ws → length ws ≤ 30 → inUse (c .bridge .sending .queue) < 8
       → c .bridge .sending .tx .count + length ws ≤ 512 → Words ws
       → Ran l c D [] ws (length ws) (given (frameOf FwdWrCrc ws))
   ran-frame ws c D s f p some most u r k =

@@ -9,7 +9,7 @@ use Rattle.command.specs.Layouts.{Layout}
 use Rattle.line.specs.Format.{Words}
 use Rattle.registers.specs.Registers.{blocking}
 use Rattle.registers.specs.declared.Mode.the-variants.{Normal}
-use Rattle.state.specs.Queue.{places}
+use Rattle.state.specs.Queue.{places, inUse}
 use Rattle.state.specs.Rings.{txSize}
 use Rattle.state.specs.declared.Note.the-variants.{Done}
 use Rattle.state.specs.declared.Phase.the-variants.{Idle}
@@ -30,7 +30,7 @@ pub record Takes (c : Config) (ws : List ℕ) : Type 0 where
   pub some : 1 ≤ length ws
   pub most : length ws ≤ callUpMost
   pub sixteen : Words ws
-  pub two-places : c .bridge .sending .queue .used + 2 ≤ places
+  pub two-places : inUse (c .bridge .sending .queue) + 2 ≤ places
   pub room : c .bridge .sending .tx .count + length ws + 1 ≤ txSize
 
 -- every note of a run is 0

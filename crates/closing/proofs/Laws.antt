@@ -59,7 +59,7 @@ module _ (b : Bridge) (x : Plan) where
   to-registers crc now address count done q d e = rw (← q, ← d) e
 
   pub to-closed : (crc : Bool) (words ends : ℕ) (reads blocked : Bool) (p : Place) (g : Granted) (c : Control) → p ≡ newPlace words ends reads
-      → g ≡ guard blocked (b .sending .tx .count) (b .sending .queue .used) (wish Keep (crc && not (eqb words 0 && eqb ends 0)) p)
+      → g ≡ guard blocked (b .sending .tx .count) (b .sending .queue) (wish Keep (crc && not (eqb words 0 && eqb ends 0)) p)
       → c ≡ faulted (b .control) (g .note) → x ≡ closed b c (g .deed) LeaveRx (g .note) → x ≡ forwardClosed b crc words ends reads blocked
   unfolding forwardClosed
   to-closed crc words ends reads blocked p g c hp hg hc e = rw (← hp, ← hg, ← hc) e

@@ -51,7 +51,7 @@ wrongCrc b crc mine =
 -- "for _CRC at a right CRC word"
 unfoldable pub forwardClosed : Bridge → Bool → ℕ → ℕ → Bool → Bool → Plan
 forwardClosed b crc words ends reads blocked =
-    grantedClosed (guard blocked (b .sending .tx .count) (b .sending .queue .used)
+    grantedClosed (guard blocked (b .sending .tx .count) (b .sending .queue)
     (wish Keep (crc && not (eqb words 0 && eqb ends 0)) (newPlace words ends reads)))
   where
     grantedClosed : Granted → Plan

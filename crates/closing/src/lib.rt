@@ -76,7 +76,7 @@ fn forward_closed(
     ensures { λ r. ⌜ r ≡ forwardClosed bridge crc words ends reads blocked ⌝ }
 {
     let count = bridge.sending.tx.count;
-    let used = bridge.sending.queue.used;
+    let queue = bridge.sending.queue;
     let wordless = words == 0;
     let endless = ends == 0;
     let wish = Wish {
@@ -84,7 +84,7 @@ fn forward_closed(
         release: crc & !(wordless & endless),
         place: queue::new_place(words, ends, reads),
     };
-    let granted = guard(blocked, count, used, wish);
+    let granted = guard(blocked, count, queue, wish);
     let note = granted.note;
     let deed = granted.deed;
     let control = faulted(bridge.control, note);

@@ -4,9 +4,11 @@ use mathlib.Core.Bool.{Bool, _&&_}
 use Prim.Native.Nat.{ℕ, _+_, _≤_, _<_}
 use native.Mathlib.Omega.{arith}
 use lib.Dec.{leb}
+use lib.ListN.{length}
 use Rattle.line.specs.declared.Piece.{Piece}
 use Rattle.line.specs.Format.{pieceLength}
 use Rattle.state.specs.Sending.{owing, stored, done}
+use Rattle.queue.proofs.Laws.{has-record}
 use Rattle.state.specs.Facts.{Doable}
 use Rattle.state.specs.declared.Place.{Place}
 use Rattle.state.specs.declared.Sending.{Sending}
@@ -21,14 +23,14 @@ to-stored s e v x h f = rw h f
 pub to-done : (s : Sending) (e v : Deed) (x : Sending) → v ≡ e → x ≡ done s e → x ≡ done s v
 to-done s e v x h f = rw h f
 
-pub has-room : (s : Sending) (d : Deed) (p : Place) → d ≡ Enqueue p → Doable s d → s .queue .used < 8
-has-room s d p e h = subst (λ (x : Deed). Doable s x) e h
+pub has-room : (s : Sending) (d : Deed) (p : Place) → d ≡ Enqueue p → Doable s d → length (s .queue .places) ≡ 8 → s .queue .used < 8
+has-room s d p e h l = has-record (s .queue) p l (subst (λ (x : Deed). Doable s x) e h)
 
 pub has-words : (s : Sending) (d : Deed) (n : ℕ) → d ≡ TakeBack n → Doable s d → n ≤ s .tx .count
 has-words s d n e h = subst (λ (x : Deed). Doable s x) e h
 
-pub has-next : (s : Sending) (d : Deed) (p : Place) → d ≡ Enqueue p → Doable s d → s .queue .used + 1 < 65536
-has-next s d p e h = let l : s .queue .used < 8 = has-room s d p e h in omega arith
+pub has-next : (s : Sending) (d : Deed) (p : Place) → d ≡ Enqueue p → Doable s d → length (s .queue .places) ≡ 8 → s .queue .used + 1 < 65536
+has-next s d p e h l = omega (arith, has-room s d p e h l)
 
 -- a transmit clear: what a soft reset leaves, and one END owed
 pub to-clear : (s c : Sending) → c ≡ done s ResetAll → record { tx = c .tx; queue = c .queue; sender = owing } ≡ done s ClearAll

@@ -1,6 +1,6 @@
 -- 01 Numbers on both sides: "One word 0xAAF0 takes 36 ticks"; "No words, 3 extra ENDs: 54 ticks". Computed from the definition, with no theorem.
 use mathlib.Core.Path.{_≡_, refl}
-use mathlib.Core.Bool.{true, false}
+use mathlib.Core.Bool.{Bool, true, false}
 use mathlib.Core.List.{_∷_}
 use Prim.Native.Nat.{ℕ}
 use lib.ListN.{replicate}
@@ -15,15 +15,15 @@ use Rattle.registers.specs.Registers.{blocking, isNormal, powerUpControl, table
 use Rattle.registers.specs.declared.Mode.the-variants.{Normal}
 use Rattle.state.specs.Frame.{mineOf, toCome, phaseSound}
 use Rattle.state.specs.Power.{powerUp}
-use Rattle.state.specs.Queue.{noPlace, newPlace, waiting, wordsOf, moved, freed, returned}
+use Rattle.state.specs.Queue.{noPlace, newPlace, waiting, wordsOf, moved, freed, returned, placesOf, placesIn, inUse, placeAt}
 use Rattle.state.specs.Rings.{written}
 use Rattle.state.specs.declared.Bridge.{Bridge}
 use Rattle.state.specs.declared.Note.the-variants.{WrongStores, BrokenRecord}
 use Rattle.place_rules.specs.Places.{roleSound, slotSound, slotsBelow}
-use Rattle.line_rules.specs.Line.{pieceSound, earSound, marksSound}
+use Rattle.line_rules.specs.Line.{pieceSound, earSound, marksSound, endSound}
 use Rattle.frame_rules.specs.Frames.{otpSound, isUnmarked}
 use Rattle.next.specs.Next.{choose, bitSent, isStarve, isStart}
-use Rattle.sender.specs.Sender.{wordSent, queueSent, senderAfter, advanced, placeSent, finished, sentBy, tickSender}
+use Rattle.sender.specs.Sender.{wordSent, queueSent, senderAfter, advanced, placeSent, finished, sentBy, tickSender, commandSent}
 use Rattle.reader.specs.Reader.{takenBy, tickReader}
 use Rattle.plan.specs.Plan.{settled}
 use Rattle.ticks.specs.Ticks.{same, markAfter, watched, starvedFlags, flagsSent, phaseAfter, controlTicked, tickNote, tickEnds, tickHears, ticked}
@@ -47,7 +47,7 @@ queuedOne words ends = record {
 }
 
 unfoldable pub drainedOne : ℕ → ℕ → ℕ → ℕ → End
-unfolding queuedOne val odd bit highFirst pick shift crcBit crcBits crcWord checkBit wordBit pieceBit hear raised blocking powerUpControl table resetRegs cleared powerUpFlags mineOf toCome phaseSound powerUp noPlace newPlace waiting wordsOf moved freed returned written roleSound slotSound slotsBelow pieceSound earSound marksSound isUnmarked choose bitSent wordSent queueSent senderAfter advanced placeSent finished sentBy tickSender takenBy tickReader settled same markAfter watched starvedFlags flagsSent phaseAfter controlTicked tickNote tickEnds tickHears ticked reacted turned turn runOf drain
+unfolding queuedOne val odd bit highFirst pick shift crcBit crcBits crcWord checkBit wordBit pieceBit hear raised blocking powerUpControl table resetRegs cleared powerUpFlags mineOf toCome phaseSound powerUp noPlace newPlace waiting wordsOf moved freed returned written roleSound slotSound slotsBelow endSound pieceSound earSound marksSound isUnmarked choose bitSent wordSent queueSent senderAfter advanced placeSent commandSent finished sentBy tickSender takenBy tickReader settled same markAfter watched starvedFlags flagsSent phaseAfter controlTicked tickNote tickEnds tickHears ticked reacted turned turn runOf drain placesOf placesIn
 drainedOne words ends cells budget = drain ours (queuedOne words ends) (replicate cells 0xAAF0) (replicate 256 0) budget
 
 pub one-word : drainedOne 1 0 512 100 .drained .ticks ≡ 36
@@ -57,6 +57,38 @@ one-word = refl
 pub ends-alone : drainedOne 0 3 512 100 .drained .ticks ≡ 54
 unfolding drainedOne
 ends-alone = refl
+
+-- 02 item 3: a word and two extra ENDs, 19 + 17 + 36 ticks as ever, and two places. The words' place is sent with the last 1 of its own END, at tick 36; the
+-- ENDs' place is freed with their last, at tick 72; the words' waits for its reading.
+pub a-pair : drainedOne 1 2 512 100 .drained .ticks ≡ 72
+unfolding drainedOne
+a-pair = refl
+
+abbrev inUseAt : ℕ → ℕ
+inUseAt ticks = inUse (drainedOne 1 2 512 ticks .drained .state .sending .queue)
+
+abbrev sentAt : ℕ → Bool
+sentAt ticks = placeAt (drainedOne 1 2 512 ticks .drained .state .sending .queue) 0 .sent
+
+pub two-at-first : inUseAt 0 ≡ 2
+unfolding drainedOne
+two-at-first = refl
+
+pub not-sent-yet : sentAt 35 ≡ false
+unfolding drainedOne
+not-sent-yet = refl
+
+pub words-sent : sentAt 36 ≡ true
+unfolding drainedOne
+words-sent = refl
+
+pub two-to-the-last-end : inUseAt 71 ≡ 2
+unfolding drainedOne
+two-to-the-last-end = refl
+
+pub ends-freed : inUseAt 72 ≡ 1
+unfolding drainedOne
+ends-freed = refl
 
 -- the budget's end
 pub cut-off : drainedOne 1 0 512 35 .drained .ticks ≡ 35

@@ -7,9 +7,10 @@ use native.Mathlib.Omega.{arith}
 use lib.ListN.{length}
 use lib.Seq.{getD-set-other}
 use borrow.Author.Tests.{lt-ltb}
+use Rattle.callup.proofs.Frame.{one-record, one-more}
 use Rattle.base.specs.Pick.{pick}
 use Rattle.command.specs.Layouts.{Layout}
-use Rattle.state.specs.Queue.{noPlace, newPlace, queued, waiting}
+use Rattle.state.specs.Queue.{noPlace, newPlace, queued, waiting, inUse}
 use Rattle.state.specs.declared.Place.{Place}
 use Rattle.state.specs.declared.Queue.{Queue}
 use Rattle.state.specs.declared.Sending.{Sending}
@@ -74,9 +75,11 @@ module _ (l : Layout) (c : Config) (g : Log) (ws : List ℕ) (k : Taken l c g ws
       let y : QueueOk q = queue-ok c o in
       let p : Place = newPlace (length ws) 0 false in
       let v : Place = newPlace 1 0 false in
-      let m : q .used < 8 = omega (arith, a .two-places) in
+      let m : q .used < 8 = one-record q (length ws) (omega (arith, a .two-places)) (y .eight) in
+      let x : inUse (queued q p) ≡ inUse q + 1 = one-more q (length ws) (omega (arith, a .two-places)) (y .eight) in
+      let z : q .used + 1 < 8 = one-record (queued q p) 1 (omega (arith, a .two-places)) (queue-push q p y m .eight) in
       let w : waiting (called .bridge .sending .queue) ≡ (waiting q ++ (p ∷ [])) ++ (v ∷ [])
-      = ap waiting (k .queue) ∙ waiting-push (queued q p) v (queue-push q p y m) (omega (arith, a .two-places)) ∙ ap (λ (W : List Place). W ++ (v ∷ [])) (waiting-push q p y m) in
+      = ap waiting (k .queue) ∙ waiting-push (queued q p) v (queue-push q p y m) z ∙ ap (λ (W : List Place). W ++ (v ∷ [])) (waiting-push q p y m) in
       remaining-same (c .bridge .sending) (called .bridge .sending) (ticksFor (length ws)) (k .same .sender)
       (ap costOf w ∙ cost-append (waiting q ++ (p ∷ [])) (v ∷ [])
       ∙ omega (arith, cost-append (waiting q) (p ∷ []), cost-new (length ws) (omega (arith, a .some)), cost-new 1 (omega arith)))

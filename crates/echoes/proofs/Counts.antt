@@ -10,7 +10,7 @@ use lib.ListN.{length, getD}
 use borrow.Author.Tests.{eqb-true}
 use Rattle.base.specs.Pick.{pick-keeps, and-r}
 use Rattle.base.specs.Bits.{val}
-use Rattle.state.specs.Queue.{noPlace, placeAt, withPlace, begunOne, freed, isDone, returned}
+use Rattle.state.specs.Queue.{noPlace, placeAt, withPlace, begunOne, freed, isDone, returned, newPlace}
 use Rattle.state.specs.declared.Place.{Place}
 use Rattle.state.specs.declared.Queue.{Queue}
 use Rattle.state.specs.declared.Returned.{Returned}
@@ -88,10 +88,13 @@ pub unread-returned : (q : Queue) (i : ℕ) (p : Place) → i < q .begun → q .
 unfolding returned
 unread-returned q i p h b e =
     pick-keeps (λ (r : Returned). unread (r .queue) + unreadBit (placeAt q i) ≡ unread q + unreadBit p) _ _ _
-    (λ d. let n : freed q i .begun ≡ q .begun - 1 = begun-freed q i in
+    (λ d. pick-keeps (λ (r : Queue). unread r + unreadBit (placeAt q i) ≡ unread q + unreadBit p) _ _ _
+    (λ m. let z : unreadBit (newPlace 0 (p .ends) (p .store)) ≡ 0 = unfold newPlace val in refl in
+    omega (arith, unread-set q i (newPlace 0 (p .ends) (p .store)) (q .begun) h (omega arith), z, bit-done p d))
+    (λ m. let n : freed q i .begun ≡ q .begun - 1 = begun-freed q i in
     let s : suc (q .begun - 1) ≡ q .begun = omega arith in
     let a : unreadBelow (freed q i .places) (q .begun - 1) + unreadBit (placeAt q i) ≡ unreadBelow (q .places) (suc (q .begun - 1)) = unread-freed q i (q .begun - 1) (omega arith) (omega arith) in
-    rw n (omega (arith, rw s at a, bit-done p d)))
+    rw n (omega (arith, rw s at a, bit-done p d))))
     (λ d. unread-set q i p (q .begun) h (omega arith))
 
 -- One more begun.

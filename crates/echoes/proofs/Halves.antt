@@ -5,9 +5,10 @@ use mathlib.Core.List.{List, [], _∷_}
 use Prim.Native.Nat.{ℕ, zero, suc, _+_, _-_, _≤_, _<_}
 use native.Mathlib.Omega.{arith}
 use native.Mathlib.Decide.{ℕ-discrete}
-use lib.Dec.{ltb}
+use lib.Dec.{ltb, leb}
 use lib.ListN.{length, take, getD}
 use borrow.Author.Tests.{lt-ltb, le-leb, eq-eqb, ltb-true}
+use Rattle.queue.proofs.Laws.{busy-begun, speaking-begun}
 use Rattle.base.specs.Pick.{pick, pick-keeps, and-l, and-r}
 use Rattle.base.specs.Bits.{val}
 use Rattle.base.specs.Truth.{never}
@@ -17,7 +18,7 @@ use Rattle.line.specs.declared.Ear.{Ear}
 use Rattle.line.specs.declared.Found.{Found}
 use Rattle.registers.specs.declared.Flags.{Flags}
 use Rattle.state.specs.Facts.{QueueFit}
-use Rattle.state.specs.Queue.{noPlace, placeAt, firstUnread, claimed, returned}
+use Rattle.state.specs.Queue.{noPlace, placeAt, firstUnread, claimed, returned, lastBegun}
 use Rattle.state.specs.Sending.{idle}
 use Rattle.state.specs.declared.Place.{Place}
 use Rattle.state.specs.declared.Queue.{Queue}
@@ -30,7 +31,7 @@ use Rattle.rules.specs.Facts.{Standing}
 use Rattle.next.specs.Next.{bitSent, isStarve, isStart}
 use Rattle.next.specs.declared.Next.{Next}
 use Rattle.next.specs.declared.Next.the-variants.{GoOn, LoadWord, Starve, LoadEnd, StartWords, StartEnds, Stay}
-use Rattle.sender.specs.Sender.{wordSent, queueSent, senderAfter, advanced, placeSent, finished}
+use Rattle.sender.specs.Sender.{wordSent, queueSent, senderAfter, advanced, placeSent, finished, commandSent}
 use Rattle.reader.specs.Reader.{isClaim, began, placeWord, placeRead, wordRead, endRead, wordTaken, atEnd, ended, takenBy, tickReader}
 use Rattle.reader.specs.declared.Taken.{Taken}
 use Rattle.kept.proofs.Sender.{Chosen}
@@ -92,12 +93,15 @@ advanced-unread s w k e st StartEnds c = begun-ends (s .queue) k e st (c .3) (c 
 advanced-unread s w k e st Stay c = omega arith
 
 pub finished-unread : (a : Sending) → QueueFit (a .queue) → length (a .queue .places) ≡ 8 → unread (finished a .queue) ≡ unread (a .queue)
-unfolding finished placeSent
+unfolding finished placeSent commandSent
 finished-unread a k e =
     pick-keeps (λ (r : Returned). unread (r .queue) ≡ unread (a .queue)) _ _ _
-    (λ t. let h : 0 < a .queue .begun = ltb-true _ _ (and-l _ _ (and-r (idle (a .sender)) _ t)) in
-    omega (arith, unread-returned (a .queue) (a .queue .begun - 1) (placeSent (placeAt (a .queue) (a .queue .begun - 1))) (omega arith) (omega (arith, k .order, k .most)) e))
-    (λ t. refl)
+    (λ t. let h : 0 < a .queue .begun = busy-begun (a .queue) (and-r (idle (a .sender)) _ t) in
+    omega (arith, unread-returned (a .queue) (a .queue .begun - 1) (commandSent (lastBegun (a .queue))) (omega arith) (omega (arith, k .order, k .most)) e))
+    (λ t. pick-keeps (λ (r : Returned). unread (r .queue) ≡ unread (a .queue)) _ _ _
+    (λ u. let h : 0 < a .queue .begun = speaking-begun (a .queue) (and-r (leb 18 (a .sender .gone)) _ u) in
+    omega (arith, unread-returned (a .queue) (a .queue .begun - 1) (placeSent (lastBegun (a .queue))) (omega arith) (omega (arith, k .order, k .most)) e))
+    (λ u. refl))
 
 -- 2. The reader's half.
 head-take : (ps : List Place) (n : ℕ) → 0 < n → 0 < length ps → (ltb 0 (getD ps 0 noPlace .words) && not (getD ps 0 noPlace .read)) ≡ true

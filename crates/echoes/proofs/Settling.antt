@@ -17,12 +17,11 @@ use Rattle.command.specs.Layouts.{Layout}
 use Rattle.line.specs.Format.{pieceLength}
 use Rattle.line.specs.declared.Ear.{Ear}
 use Rattle.state.specs.Facts.{QueueFit}
-use Rattle.state.specs.Queue.{waiting, wordsOf, underWay}
+use Rattle.state.specs.Queue.{waiting, wordsOf, underWay, lastBegun}
 use Rattle.state.specs.Sending.{idle}
 use Rattle.state.specs.Rings.{oldest}
 use Rattle.state.specs.declared.Sender.{Sender}
 use Rattle.state.specs.declared.Sending.{Sending}
-use Rattle.line_rules.specs.Line.{lastBegun}
 use Rattle.next.specs.Next.{mayStart, choose, bitSent, isStarve}
 use Rattle.next.specs.declared.Next.{Next}
 use Rattle.next.specs.declared.Next.the-variants.{Stay}
@@ -35,7 +34,7 @@ use Rattle.kept.proofs.Fits.{LayoutFit}
 use Rattle.kept.proofs.Queue.{Kept, waiting-none}
 use Rattle.kept.proofs.Reader.{tick-reader-keeps}
 use Rattle.kept.proofs.Sender.{kept-finished, tick-sender-keeps}
-use Rattle.kept.proofs.Standing.{undone-awaits, rested-sent}
+use Rattle.kept.proofs.Standing.{rested-awaits}
 use Rattle.drain.specs.Cost.{costOf}
 use Rattle.drain.proofs.Ticks.{remaining, sentAll, falls, rest-none}
 use Rattle.bridge.specs.Runs.{Config, next}
@@ -145,8 +144,7 @@ none-begun-left s k e st i z =
       | no x ↦
           (let h : 0 < s .queue .begun = omega arith in
           let w : underWay (s .queue) ≡ false = and-last (idle (s .sender)) (underWay (s .queue)) (st .sender .rest) i in
-          let a : awaits (lastBegun (s .queue)) ≡ true
-          = undone-awaits (lastBegun (s .queue)) (rested-sent (s .queue) k e (st .standing) w h) (st .standing .youngest h) in
+          let a : awaits (lastBegun (s .queue)) ≡ true = rested-awaits (s .queue) k e (st .standing) w h in
           let m : ltb 0 (lastBegun (s .queue) .words) ≡ true = search (and-l, and-r) in
           let r : not (lastBegun (s .queue) .read) ≡ true = search (and-l, and-r) in
           let b : unreadBit (lastBegun (s .queue)) ≡ 1 = rw (m, r) refl in

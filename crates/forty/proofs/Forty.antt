@@ -2,11 +2,13 @@
 use mathlib.Core.Path.{_≡_, refl, ap, ap₂, sym, _∙_, subst}
 use mathlib.Core.Bool.{Bool, true, false}
 use mathlib.Core.List.{List, [], _++_}
-use Prim.Native.Nat.{ℕ, _≤_}
+use Prim.Native.Nat.{ℕ, _≤_, _+_}
 use native.Mathlib.Omega.{arith}
 use lib.Dec.{ltb, eqb}
 use lib.ListN.{length}
 use borrow.Author.Tests.{eq-eqb, eqb-true, le-ltb, lt-ltb, ne-eqb}
+use Rattle.state.specs.Queue.{newPlace, queued, inUse}
+use Rattle.kept.proofs.Queue.{eight-queued}
 use Rattle.base.specs.Pick.{pick, pick-keeps}
 use Rattle.command.specs.Layouts.{ours}
 use Rattle.line.specs.Format.{Words}
@@ -28,7 +30,7 @@ use Rattle.verdict.proofs.Taking.{Finds, taken-facts}
 use Rattle.callup.specs.CallUp.{callUp, pairs}
 use Rattle.callup.specs.Taken.{Takes}
 use Rattle.callup.proofs.Taken.{Taken as CallTaken}
-use Rattle.callup.proofs.Frame.{logOf}
+use Rattle.callup.proofs.Frame.{logOf, one-more}
 use Rattle.callup.proofs.CallUp.{end-append, log-append, premises-append, ours-speaks, taken}
 use Rattle.board.specs.Board.{called, verdictOf, refusedIn, takenOf, callUpOf, slotOf, showing}
 use Rattle.board.specs.declared.Board.{Board}
@@ -58,12 +60,18 @@ taken-only c slot ws w h =
     let f : Finds (length (c .tx)) (length (c .rx)) (c .bridge) slot (length ws) = taken-facts _ _ (c .bridge) slot (length ws) h in
     (record { tx-is = f .tx-is; rx-is = f .rx-is }, (f .sound-record, (f .in-board, taken-takes c slot ws w h)))
 
+both-more : (q : Queue) (n : ℕ) → inUse q + 2 ≤ 8 → length (q .places) ≡ 8
+    → inUse (queued (queued q (newPlace n 0 false)) (newPlace 1 0 false)) ≡ inUse q + 2
+both-more q n h l =
+    let a : inUse (queued q (newPlace n 0 false)) ≡ inUse q + 1 = one-more q n (omega arith) l in
+    omega (arith, one-more (queued q (newPlace n 0 false)) 1 (omega arith) (eight-queued q (newPlace n 0 false) l))
+
 taken-right : (c : Config) (ws : List ℕ) → Whole c → Takes c ws → TakenRight c ws
 taken-right c ws w t =
     let k : CallTaken ours c (logOf [] []) ws = taken ours ours-fits ours-speaks c [] ws (obeys-whole c w) t in
     record {
       notes = k .notes;
-      two-places = ap (λ (q : Queue). q .used) (k .queue) ∙ omega arith;
+      two-places = ap (λ (q : Queue). inUse q) (k .queue) ∙ both-more (c .bridge .sending .queue) (length ws) (t .two-places) (obeys-whole c w .rules .sending .eight);
       words-more = k .count;
       no-frame = k .idle-frame;
       same = k .same;

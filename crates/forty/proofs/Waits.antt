@@ -7,6 +7,8 @@ use native.Mathlib.Omega.{arith}
 use native.Mathlib.Decide.{ℕ-discrete}
 use lib.ListN.{length}
 use borrow.Author.Tests.{eq-eqb, le-leb, le-ltb, ne-eqb}
+use Rattle.state.specs.declared.Queue.{Queue}
+use Rattle.state.specs.Queue.{inUse, placesIn}
 use Rattle.base.specs.Pick.{pick}
 use Rattle.base.specs.Truth.{never}
 use Rattle.command.specs.Layouts.{ours}
@@ -68,6 +70,10 @@ verdict-open c slot n o f s a b =
       ready-open c f,
     ) refl
 
+empty-unused : (q : Queue) → q .used ≡ 0 → inUse q ≡ 0
+unfolding placesIn
+empty-unused q e = rw e refl
+
 pub sure-room : (slot n : ℕ) → slot ≤ lastSlot → 1 ≤ n → n ≤ callUpMost → Sure (Room slot n)
 unfolding met hasRoom pick
 sure-room slot n s a b m i z =
@@ -75,7 +81,7 @@ sure-room slot n s a b m i z =
     = empties ours ours-fits (m .at) (under (m .chain) (m .oldest)) (i .lag) (i .tuned) (i .free) (rw (length-under (m .chain) (m .oldest)) z) in
     rw (
       verdict-open (m .at) slot n (i .tuned .obeys) (i .free) s a b,
-      le-leb (m .at .bridge .sending .queue .used + 2) 8 (omega (arith, e .none-used)),
+      le-leb (inUse (m .at .bridge .sending .queue) + 2) 8 (omega (arith, empty-unused (m .at .bridge .sending .queue) (e .none-used))),
       le-leb (m .at .bridge .sending .tx .count + n + 1) 512 (omega (arith, e .none-stored)),
     ) refl
 

@@ -7,6 +7,7 @@ use mathlib.Core.List.{List, [], _∷_, _++_}
 use mathlib.Core.Logic.{_≢_}
 use Prim.Native.Nat.{ℕ, _+_, _≤_, _<_}
 use lib.ListN.{length, getD, take}
+use Rattle.state.specs.Queue.{inUse}
 use Rattle.command.specs.Layouts.{ours}
 use Rattle.line.specs.Format.{Words}
 use Rattle.state.specs.declared.Phase.the-variants.{Idle}
@@ -32,7 +33,7 @@ use Rattle.forty.specs.Ends.{budgetFor, AllRight, AtRest, wordsOf, board
 -- What a call-up that is taken leaves: every note of its two frames is 0; two places and n + 1 words more, and what `Same` names as it was.
 pub record TakenRight (c : Config) (ws : List ℕ) : Type 0 where
   pub notes : AllDone ours c (callUp ws)
-  pub two-places : endOf ours c (callUp ws) .bridge .sending .queue .used ≡ c .bridge .sending .queue .used + 2
+  pub two-places : inUse (endOf ours c (callUp ws) .bridge .sending .queue) ≡ inUse (c .bridge .sending .queue) + 2
   pub words-more : endOf ours c (callUp ws) .bridge .sending .tx .count ≡ c .bridge .sending .tx .count + length ws + 1
   pub no-frame : endOf ours c (callUp ws) .bridge .frame .phase ≡ Idle
   pub same : Same c (endOf ours c (callUp ws))

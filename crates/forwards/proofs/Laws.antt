@@ -59,7 +59,7 @@ unfaulted c RxEmpty h = refl
 pub to-forward-word : (b : Bridge) (f : Fwd) (at : Progress) (w : ℕ) (release : Bool) (p : Place) (g : Granted) (x : Plan)
     → release ≡ releases f (wordCounted at) (b .control .regs .txfflvl) (b .sending .tx .count + 1)
     → p ≡ newPlace (f .words) (f .ends) (f .reads)
-    → g ≡ guard (at .blocked) (b .sending .tx .count) (b .sending .queue .used) (wish (Put w) release p)
+    → g ≡ guard (at .blocked) (b .sending .tx .count) (b .sending .queue) (wish (Put w) release p)
     → x ≡ forwarded b f (wordCounted at) g
     → x ≡ forwardWord b f at w
 unfolding forwardWord
@@ -68,7 +68,7 @@ to-forward-word b f at w release p g x hr hp hg e = rw (← hr, ← hp, ← hg) 
 pub to-forward-begun : (b : Bridge) (f : Fwd) (sum : ℕ) (blocked : Bool) (p : Place) (g : Granted) (x : Plan)
     → blocked ≡ blocking (b .control .flags)
     → p ≡ newPlace (f .words) (f .ends) (f .reads)
-    → g ≡ guard blocked (b .sending .tx .count) (b .sending .queue .used) (wish Keep (not (f .crc) && eqb (f .words) 0 && ltb 0 (f .ends)) p)
+    → g ≡ guard blocked (b .sending .tx .count) (b .sending .queue) (wish Keep (not (f .crc) && eqb (f .words) 0 && ltb 0 (f .ends)) p)
     → x ≡ forwarded b f (justBegun sum blocked) g
     → x ≡ forwardBegun b f sum (blocking (b .control .flags))
 unfolding forwardBegun

@@ -8,7 +8,7 @@ use Rattle.registers.specs.Raising.{raisedIn}
 use Rattle.registers.specs.declared.Control.{Control}
 use Rattle.registers.specs.declared.Flag.the-variants.{QueueOvf, TxOvf}
 use Rattle.state.specs.Rings.{txSize}
-use Rattle.state.specs.Queue.{places, newPlace}
+use Rattle.state.specs.Queue.{newPlace, lacks}
 use Rattle.state.specs.declared.Bridge.{Bridge}
 use Rattle.state.specs.declared.Deed.{Deed}
 use Rattle.state.specs.declared.Deed.the-variants.{Leave, Enqueue, TakeBack, ClearAll, ResetAll}
@@ -17,6 +17,7 @@ use Rattle.state.specs.declared.Note.{Note}
 use Rattle.state.specs.declared.Note.the-variants.{Done, WrongStores, BrokenRecord, MalformedWord, Discarded, Blocked, CrcRefused, CrcWrong, TxFull, QueueFull, LineBusy, ResetRefused, CutShort, TxEmpty, RxFull, RxEmpty}
 use Rattle.state.specs.declared.Phase.the-variants.{Collecting}
 use Rattle.state.specs.declared.Place.{Place}
+use Rattle.state.specs.declared.Queue.{Queue}
 use Rattle.state.specs.declared.Progress.{Progress}
 use Rattle.state.specs.declared.Store.{Store}
 use Rattle.state.specs.declared.Store.the-variants.{Keep, Put}
@@ -44,14 +45,14 @@ unfoldable pub asksStore : Store → Bool
 asksStore Keep = false
 asksStore (Put w) = true
 
--- Notes 5, 8 and 9: a blocked forward's word or release is dropped; a word with TX full, or a release with 8 places used, is a transmit
--- clear, and "a data word that releases is stored first". `count` words are in TX, `used` places in use.
-unfoldable pub guard : Bool → ℕ → ℕ → Wish → Granted
-guard blocked count used w =
+-- Notes 5, 8 and 9: a blocked forward's word or release is dropped; a word with TX full, or a release with fewer places free than it needs (02
+-- item 3), is a transmit clear, and "a data word that releases is stored first". `count` words are in TX.
+unfoldable pub guard : Bool → ℕ → Queue → Wish → Granted
+guard blocked count q w =
     pick (blocked && (asksStore (w .store) || w .release)) (granted Keep Leave Blocked)
     (pick (asksStore (w .store) && leb txSize count) (granted Keep ClearAll TxFull)
     (pick (w .release)
-    (pick (leb places used) (granted (w .store) ClearAll QueueFull) (granted (w .store) (Enqueue (w .place)) Done))
+    (pick (lacks q (w .place)) (granted (w .store) ClearAll QueueFull) (granted (w .store) (Enqueue (w .place)) Done))
     (granted (w .store) Leave Done)))
 
 -- the flag that a refusal raises
@@ -120,12 +121,12 @@ releases f at level count = not (f .crc) && not (at .released) && (leb (level + 
 unfoldable pub forwardWord : Bridge → Fwd → Progress → ℕ → Plan
 forwardWord b f at w =
     forwarded b f (wordCounted at)
-    (guard (at .blocked) (b .sending .tx .count) (b .sending .queue .used)
+    (guard (at .blocked) (b .sending .tx .count) (b .sending .queue)
     (wish (Put w) (releases f (wordCounted at) (b .control .regs .txfflvl) (b .sending .tx .count + 1)) (newPlace (f .words) (f .ends) (f .reads))))
 
 -- the command word: released at once where there are no data words and it is not named _CRC. "A command of no words and no ENDs queues nothing"
 unfoldable pub forwardBegun : Bridge → Fwd → ℕ → Bool → Plan
 forwardBegun b f sum blocked =
     forwarded b f (justBegun sum blocked)
-    (guard blocked (b .sending .tx .count) (b .sending .queue .used)
+    (guard blocked (b .sending .tx .count) (b .sending .queue)
     (wish Keep (not (f .crc) && eqb (f .words) 0 && ltb 0 (f .ends)) (newPlace (f .words) (f .ends) (f .reads))))

@@ -21,6 +21,7 @@ use state::Note;
 use state::Phase;
 use state::Place;
 use state::Progress;
+use state::Queue;
 use state::Store;
 
 // What a forward asks: a word to store, and whether its command is to be queued.
@@ -72,9 +73,9 @@ fn overflows(store: Store, count: u16) -> bool
     asks & (512 <= count)
 }
 
-// What is granted with `count` words in TX and `used` places in use.
-pub fn guard(blocked: bool, count: u16, used: u16, wish: Wish) -> Granted
-    ensures { λ r. ⌜ r ≡ guardOf blocked count used wish ⌝ }
+// What is granted with `count` words in TX and this queue.
+pub fn guard(blocked: bool, count: u16, queue: Queue, wish: Wish) -> Granted
+    ensures { λ r. ⌜ r ≡ guardOf blocked count queue wish ⌝ }
 {
     let store = wish.store;
     let release = wish.release;
@@ -86,7 +87,7 @@ pub fn guard(blocked: bool, count: u16, used: u16, wish: Wish) -> Granted
         return grant(Store::Keep, Deed::ClearAll, Note::TxFull);
     }
     if release {
-        if 8 <= used {
+        if queue::lacks(queue, place) {
             return grant(store, Deed::ClearAll, Note::QueueFull);
         }
         return grant(store, Deed::Enqueue(place), Note::Done);
@@ -207,14 +208,14 @@ pub fn forward_word(bridge: Bridge, forward: Fwd, at: Progress, word: u16) -> Pl
     let mut after = at;
     after.got = at.got + 1;
     let count = bridge.sending.tx.count;
-    let used = bridge.sending.queue.used;
+    let queue = bridge.sending.queue;
     let level = bridge.control.regs.txfflvl;
     let wish = Wish {
         store: Store::Put(word),
         release: releases(forward, after, level, count + 1),
         place: queue::new_place(forward.words, forward.ends, forward.reads),
     };
-    let granted = guard(at.blocked, count, used, wish);
+    let granted = guard(at.blocked, count, queue, wish);
     forwarded(bridge, forward, after, granted)
 }
 
@@ -224,7 +225,7 @@ pub fn forward_begun(bridge: Bridge, forward: Fwd, sum: u16) -> Plan
 {
     let blocked = registers::blocking(bridge.control.flags);
     let count = bridge.sending.tx.count;
-    let used = bridge.sending.queue.used;
+    let queue = bridge.sending.queue;
     let wordless = forward.words == 0;
     let owes = 0 < forward.ends;
     let wish = Wish {
@@ -232,7 +233,7 @@ pub fn forward_begun(bridge: Bridge, forward: Fwd, sum: u16) -> Plan
         release: !forward.crc & wordless & owes,
         place: queue::new_place(forward.words, forward.ends, forward.reads),
     };
-    let granted = guard(blocked, count, used, wish);
+    let granted = guard(blocked, count, queue, wish);
     let at = Progress {
         got: 0,
         crc: sum,

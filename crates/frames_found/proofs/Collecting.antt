@@ -5,6 +5,7 @@ use mathlib.Core.Bool.{Bool, true, false, _||_}
 use Prim.Native.Nat.{ℕ, _+_, _<_}
 use native.Mathlib.Omega.{arith}
 use lib.ListN.{take}
+use Rattle.state.specs.declared.Queue.{Queue}
 use Rattle.base.specs.Pick.{pick, pick-keeps}
 use Rattle.base.specs.Truth.{never}
 use Rattle.command.specs.Layouts.{ours}
@@ -76,9 +77,9 @@ abbrev Granting : Granted → Type 0
 Granting g = isOfState (g .note) ≡ true
 
 -- notes 5, 8 and 9
-guard-of-state : (blocked : Bool) (count used : ℕ) (w : Wish) → Granting (guard blocked count used w)
+guard-of-state : (blocked : Bool) (count : ℕ) (q : Queue) (w : Wish) → Granting (guard blocked count q w)
 unfolding guard
-guard-of-state blocked count used w =
+guard-of-state blocked count q w =
     pick-keeps Granting _ _ _ (λ t. refl)
     (λ t. pick-keeps Granting _ _ _ (λ u. refl)
     (λ u. pick-keeps Granting _ _ _ (λ v. pick-keeps Granting _ _ _ (λ x. refl) (λ x. refl)) (λ v. refl)))

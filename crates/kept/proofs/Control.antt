@@ -5,6 +5,7 @@ use mathlib.Core.Bool.{Bool, true, false, not, _&&_, _||_}
 use mathlib.Core.List.{List, [], _∷_}
 use Prim.Native.Nat.{ℕ, zero, suc, _+_}
 use lib.Dec.{ltb, eqb}
+use Rattle.state.specs.declared.Queue.{Queue}
 use Rattle.base.specs.Bits.{bit}
 use Rattle.base.specs.Pick.{pick, pick-keeps}
 use Rattle.command.specs.Layouts.{Layout}
@@ -170,9 +171,9 @@ record Pays (c : Control) (g : Granted) : Type 0 where
   hears : rxff (faulted c (g .note) .flags) ≡ true → rxff (c .flags) ≡ true
   stands : isReset (g .deed) ≡ false
 
-guard-pays : (c : Control) (blocked : Bool) (count used : ℕ) (w : Wish) → Pays c (guard blocked count used w)
+guard-pays : (c : Control) (blocked : Bool) (count : ℕ) (q : Queue) (w : Wish) → Pays c (guard blocked count q w)
 unfolding guard faulted raised clears isReset
-guard-pays c blocked count used w =
+guard-pays c blocked count q w =
     pick-keeps (Pays c) _ _ _ (λ h. record { otp = λ e. e; blocks = λ e. or-left _ _ e; hears = λ e. e; stands = refl })
     (λ h. pick-keeps (Pays c) _ _ _ (λ k. record { otp = λ e. e; blocks = λ e. or-true (blocking (c .flags)); hears = λ e. e; stands = refl })
     (λ k. pick-keeps (Pays c) _ _ _
@@ -262,7 +263,7 @@ module _ (b : Bridge) (o : otpSound (b .control .mode) (b .control .flags .otp) 
   forward-closed-rises : (crc : Bool) (words ends : ℕ) (reads blocked : Bool) → Rises b (forwardClosed b crc words ends reads blocked)
   unfolding forwardClosed isUnmarked
   forward-closed-rises crc words ends reads blocked =
-      let y = guard-pays (b .control) blocked (b .sending .tx .count) (b .sending .queue .used) _ in
+      let y = guard-pays (b .control) blocked (b .sending .tx .count) (b .sending .queue) _ in
       record {
         otp = y .otp o;
         marked = and-none (blocking (forwardClosed b crc words ends reads blocked .control .flags)) _ refl;

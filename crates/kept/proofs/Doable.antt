@@ -3,6 +3,7 @@
 use mathlib.Core.Bool.{Bool, true}
 use Prim.Native.Nat.{ℕ, _≤_}
 use borrow.Author.Tests.{leb-false}
+use Rattle.queue.proofs.Laws.{has-places}
 use Rattle.base.specs.Pick.{pick, pick-keeps}
 use Rattle.command.specs.Layouts.{Layout}
 use Rattle.command.specs.declared.Command.{Command}
@@ -37,12 +38,12 @@ Grants s st g = Doable (stored s st) (g .deed)
 abbrev Plans : Sending → Plan → Type 0
 Plans s p = Doable (stored s (p .store)) (p .deed)
 
-guard-doable : (s : Sending) (st : Store) (blocked : Bool) (w : Wish) → Grants s st (guard blocked (s .tx .count) (s .queue .used) w)
+guard-doable : (s : Sending) (st : Store) (blocked : Bool) (w : Wish) → Grants s st (guard blocked (s .tx .count) (s .queue) w)
 unfolding guard stored
 guard-doable s st blocked w =
     pick-keeps (Grants s st) _ _ _ (λ h. tt)
     (λ h. pick-keeps (Grants s st) _ _ _ (λ f. tt)
-    (λ f. pick-keeps (Grants s st) _ _ _ (λ r. pick-keeps (Grants s st) _ _ _ (λ u. tt) (λ u. leb-false _ _ u)) (λ r. tt)))
+    (λ f. pick-keeps (Grants s st) _ _ _ (λ r. pick-keeps (Grants s st) _ _ _ (λ u. tt) (λ u. has-places (s .queue) (w .place) u)) (λ r. tt)))
 
 clears-doable : (s : Sending) (t : Bool) → Doable s (pick t ClearAll Leave)
 clears-doable s t = pick-keeps (Doable s) t _ _ (λ h. tt) (λ h. tt)

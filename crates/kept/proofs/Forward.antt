@@ -5,12 +5,13 @@ use Prim.Native.Nat.{ℕ, zero, suc, _+_, _-_, _≤_, _<_}
 use native.Mathlib.Omega.{arith}
 use lib.Dec.{ltb, leb, eqb}
 use borrow.Author.Tests.{leb-true, leb-false, eqb-true, lt-ltb, le-leb, eq-eqb}
+use Rattle.queue.proofs.Laws.{has-places, has-record}
 use Rattle.base.specs.Pick.{pick, pick-keeps, and-l, and-r}
 use Rattle.command.specs.declared.Command.the-variants.{Forward}
 use Rattle.forwards.specs.Forward.{wish, granted, asksStore, guard, mineAfter, enqueues, clears}
 use Rattle.forwards.specs.declared.Granted.{Granted}
 use Rattle.state.specs.Frame.{fwd, progress, dataWords, mineOf, owedBy, toCome, forwardSound, collectSound, phaseSound}
-use Rattle.state.specs.Queue.{newPlace}
+use Rattle.state.specs.Queue.{newPlace, lacks, inUse, placesOf}
 use Rattle.state.specs.Rings.{ringAfter}
 use Rattle.state.specs.Sending.{stored, done}
 use Rattle.state.specs.declared.Deed.{Deed}
@@ -165,11 +166,12 @@ module _ (s : Sending) (crc : Bool) (words ends : ℕ) (reads : Bool) where
 
   -- a word that releases
   word-queued : (got sum mine w : ℕ) → Owes got mine false false → Fit got sum mine false false → got < words → s .tx .count < 512
-      → s .queue .used < 8 → crc ≡ false → Leaves s (Put w) (Enqueue (newPlace words ends reads)) (Collects (got + 1) sum 0 true false)
+      → inUse (s .queue) + placesOf (newPlace words ends reads) ≤ 8 → crc ≡ false → Leaves s (Put w) (Enqueue (newPlace words ends reads)) (Collects (got + 1) sum 0 true false)
   unfolding toCome mineOf phaseSound collectSound owedBy pick newPlace
   word-queued got sum mine w r f h c u k = record {
     sending =
-        rules-enqueued (stored s (Put w)) (newPlace words ends reads) (words - (got + 1)) (mine + 1) (rules-put-mine s w mine r c) (unfold stored in u) (f .words-most)
+        rules-enqueued (stored s (Put w)) (newPlace words ends reads) (words - (got + 1)) (mine + 1) (rules-put-mine s w mine r c)
+        (unfold stored in has-record (s .queue) (newPlace words ends reads) (r .eight) u) (f .words-most)
         (f .ends-most)
         (omega (arith, f .own))
         (omega arith);
@@ -187,7 +189,7 @@ module _ (s : Sending) (crc : Bool) (words ends : ℕ) (reads : Bool) where
   -- a data word, whether it releases or not
   pub word-goes : (got sum mine w : ℕ) (blocked released t : Bool) → Owes got mine released blocked → Fit got sum mine released blocked → got < words
       → (t ≡ true → (crc ≡ false) × (released ≡ false)) → (t ≡ false → released ≡ false → (crc || ltb (got + 1) words) ≡ true)
-      → Goes (got + 1) sum mine released blocked (guard blocked (s .tx .count) (s .queue .used) (wish (Put w) t (newPlace words ends reads)))
+      → Goes (got + 1) sum mine released blocked (guard blocked (s .tx .count) (s .queue) (wish (Put w) t (newPlace words ends reads)))
   unfolding guard asksStore pick mineAfter enqueues clears
   word-goes got sum mine w true released t r f h p q = word-dropped got sum mine released r f h
   word-goes got sum mine w false true true r f h p q = let z : _≡_ {A = ℕ} 0 1 = cc (p refl .1) in absurd (omega arith)
@@ -197,12 +199,12 @@ module _ (s : Sending) (crc : Bool) (words ends : ℕ) (reads : Bool) where
       (λ c. word-sent got sum mine w r f h (leb-false _ _ c))
   word-goes got sum mine w false false true r f h p q =
       pick-keeps (Goes (got + 1) sum mine false false) (leb 512 (s .tx .count)) (granted Keep ClearAll TxFull)
-      (pick (leb 8 (s .queue .used)) (granted (Put w) ClearAll QueueFull) (granted (Put w) (Enqueue (newPlace words ends reads)) Done))
+      (pick (lacks (s .queue) (newPlace words ends reads)) (granted (Put w) ClearAll QueueFull) (granted (Put w) (Enqueue (newPlace words ends reads)) Done))
       (λ c. forward-cleared Keep (got + 1) sum _ _ false r (omega arith) (f .words-most) (f .ends-most) (f .unchecked))
-      (λ c. pick-keeps (Goes (got + 1) sum mine false false) (leb 8 (s .queue .used)) (granted (Put w) ClearAll QueueFull)
+      (λ c. pick-keeps (Goes (got + 1) sum mine false false) (lacks (s .queue) (newPlace words ends reads)) (granted (Put w) ClearAll QueueFull)
       (granted (Put w) (Enqueue (newPlace words ends reads)) Done)
       (λ u. forward-cleared (Put w) (got + 1) sum _ _ false r (omega arith) (f .words-most) (f .ends-most) (f .unchecked))
-      (λ u. word-queued got sum mine w r f h (leb-false _ _ c) (leb-false _ _ u) (p refl .0)))
+      (λ u. word-queued got sum mine w r f h (leb-false _ _ c) (has-places (s .queue) _ u) (p refl .0)))
   word-goes got sum mine w false false false r f h p q =
       pick-keeps (Goes (got + 1) sum mine false false) (leb 512 (s .tx .count)) (granted Keep ClearAll TxFull) (granted (Put w) Leave Done)
       (λ c. forward-cleared Keep (got + 1) sum _ _ false r (omega arith) (f .words-most) (f .ends-most) (f .unchecked))
@@ -229,11 +231,12 @@ module _ (s : Sending) (crc : Bool) (words ends : ℕ) (reads : Bool) where
       none true = refl
       none false = refl
 
-  begun-queued : (sum : ℕ) → SendRules s 0 0 → words ≡ 0 → ends ≤ 127 → 0 < ends → s .queue .used < 8 → crc ≡ false
+  begun-queued : (sum : ℕ) → SendRules s 0 0 → words ≡ 0 → ends ≤ 127 → 0 < ends → inUse (s .queue) + placesOf (newPlace words ends reads) ≤ 8 → crc ≡ false
       → Leaves s Keep (Enqueue (newPlace words ends reads)) (Collects 0 sum 0 true false)
   unfolding toCome mineOf phaseSound collectSound owedBy pick newPlace stored ringAfter
   begun-queued sum r w e n u k = record {
-    sending = rules-enqueued s (newPlace words ends reads) (words - 0) 0 r u (omega arith) e (omega arith) (omega arith);
+    sending = rules-enqueued s (newPlace words ends reads) (words - 0) 0 r (has-record (s .queue) (newPlace words ends reads) (r .eight) u) (omega arith) e
+        (omega arith) (omega arith);
     phase = forward-passes (fwd crc words ends reads) (progress 0 sum 0 true false) (record {
       come = omega arith;
       words-most = omega arith;
@@ -247,15 +250,15 @@ module _ (s : Sending) (crc : Bool) (words ends : ℕ) (reads : Bool) where
 
   pub begun-goes : (sum : ℕ) (blocked t : Bool) → SendRules s 0 0 → words ≤ 4096 → ends ≤ 127 → (t ≡ true → (crc ≡ false) × (words ≡ 0) × (0 < ends))
       → (t ≡ false → (crc || false || false || ltb 0 words || (eqb words 0 && eqb ends 0)) ≡ true)
-      → Goes 0 sum 0 false blocked (guard blocked (s .tx .count) (s .queue .used) (wish Keep t (newPlace words ends reads)))
+      → Goes 0 sum 0 false blocked (guard blocked (s .tx .count) (s .queue) (wish Keep t (newPlace words ends reads)))
   unfolding guard asksStore pick mineAfter enqueues clears
   begun-goes sum true true r w e p o = begun-waits sum true r w e (blocked-timely crc false _ _)
   begun-goes sum true false r w e p o = begun-waits sum true r w e (blocked-timely crc false _ _)
   begun-goes sum false true r w e p o =
-      pick-keeps (Goes 0 sum 0 false false) (leb 8 (s .queue .used)) (granted Keep ClearAll QueueFull)
+      pick-keeps (Goes 0 sum 0 false false) (lacks (s .queue) (newPlace words ends reads)) (granted Keep ClearAll QueueFull)
       (granted Keep (Enqueue (newPlace words ends reads)) Done)
       (λ u. forward-cleared Keep 0 sum 0 0 false r (omega arith) w e refl)
-      (λ u. begun-queued sum r (p refl .1) e (p refl .2) (leb-false _ _ u) (p refl .0))
+      (λ u. begun-queued sum r (p refl .1) e (p refl .2) (has-places (s .queue) _ u) (p refl .0))
   begun-goes sum false false r w e p o = begun-waits sum false r w e (o refl)
 
   -- the CRC word of one that has come whole
@@ -263,11 +266,11 @@ module _ (s : Sending) (crc : Bool) (words ends : ℕ) (reads : Bool) where
   unfolding stored done ringAfter toCome mineOf phaseSound
   closed-left mine r m = record { sending = rules-none s 0 mine r refl m; phase = refl; asks = tt }
 
-  closed-queued : (mine : ℕ) → SendRules s 0 mine → mine ≡ words → 0 < words + ends → words ≤ 4096 → ends ≤ 127 → s .queue .used < 8
-      → Leaves s Keep (Enqueue (newPlace words ends reads)) Idle
+  closed-queued : (mine : ℕ) → SendRules s 0 mine → mine ≡ words → 0 < words + ends → words ≤ 4096 → ends ≤ 127
+      → inUse (s .queue) + placesOf (newPlace words ends reads) ≤ 8 → Leaves s Keep (Enqueue (newPlace words ends reads)) Idle
   unfolding stored ringAfter toCome mineOf phaseSound newPlace
   closed-queued mine r m n w e u = record {
-    sending = rules-enqueued s (newPlace words ends reads) 0 mine r u w e (omega arith) n;
+    sending = rules-enqueued s (newPlace words ends reads) 0 mine r (has-record (s .queue) (newPlace words ends reads) (r .eight) u) w e (omega arith) n;
     phase = refl;
     asks = (u, fresh-waits words ends reads n);
   }
@@ -278,13 +281,13 @@ module _ (s : Sending) (crc : Bool) (words ends : ℕ) (reads : Bool) where
 
   pub closed-goes : (mine : ℕ) (blocked t : Bool) → SendRules s 0 mine → words ≤ 4096 → ends ≤ 127 → (blocked ≡ true → mine ≡ 0)
       → (t ≡ false → mine ≡ 0) → (t ≡ true → blocked ≡ false → mine ≡ words) → (t ≡ true → 0 < words + ends)
-      → Leaves s Keep (guard blocked (s .tx .count) (s .queue .used) (wish Keep t (newPlace words ends reads)) .deed) Idle
+      → Leaves s Keep (guard blocked (s .tx .count) (s .queue) (wish Keep t (newPlace words ends reads)) .deed) Idle
   unfolding guard asksStore pick
   closed-goes mine true true r w e a n m o = closed-left mine r (a refl)
   closed-goes mine true false r w e a n m o = closed-left mine r (a refl)
   closed-goes mine false true r w e a n m o =
-      pick-keeps (λ (g : Granted). Leaves s Keep (g .deed) Idle) (leb 8 (s .queue .used)) (granted Keep ClearAll QueueFull)
+      pick-keeps (λ (g : Granted). Leaves s Keep (g .deed) Idle) (lacks (s .queue) (newPlace words ends reads)) (granted Keep ClearAll QueueFull)
       (granted Keep (Enqueue (newPlace words ends reads)) Done)
       (λ u. closed-cleared mine r)
-      (λ u. closed-queued mine r (m refl refl) (o refl) w e (leb-false _ _ u))
+      (λ u. closed-queued mine r (m refl refl) (o refl) w e (has-places (s .queue) _ u))
   closed-goes mine false false r w e a n m o = closed-left mine r (n refl)

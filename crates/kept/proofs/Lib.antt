@@ -1,6 +1,7 @@
 pub mod Owed
 pub mod Sound
 pub mod Queue
+pub mod InUse
 pub mod Standing
 pub mod Freed
 pub mod Pieces

@@ -6,6 +6,7 @@ use Prim.Native.Nat.{ℕ, _<_}
 use lib.Dec.{ltb}
 use lib.ListN.{length}
 use borrow.Author.Tests.{ltb-true, not-true}
+use Rattle.queue.proofs.Laws.{has-record}
 use Rattle.base.specs.Pick.{pick, pick-keeps, and-l, and-r, and-both}
 use Rattle.base.specs.Truth.{or-end}
 use Rattle.writes.specs.Writes.{isQuiet}
@@ -116,7 +117,7 @@ deed-marks : (r : Receiving) (s : Sending) (st : Store) (d : Deed) (f : Flags) �
 unfolding clearedAway done stored isReset
 deed-marks r s st Leave f g l t a n h = h
 deed-marks r s st (Enqueue p) f g l t a n h =
-    marks-carried (r .reader .ear) (r .reader) (s .queue) (queued (s .queue) p) f f (queued-unread (s .queue) g l t p (a .0) (a .1)) (λ x. x) h
+    marks-carried (r .reader .ear) (r .reader) (s .queue) (queued (s .queue) p) f f (queued-unread (s .queue) g l t p (has-record (s .queue) p l (a .0)) (a .1) (a .0)) (λ x. x) h
 deed-marks r s st (TakeBack n) f g l t a z h = h
 deed-marks r s st ClearAll f g l t a n h = marks-cleared (r .reader .ear) (r .reader) (s .queue) _ f h
 deed-marks r s st ResetAll f g l t a n h = cc

@@ -12,7 +12,7 @@ use Rattle.base.specs.Pick.{pick, pick-keeps, and-l, and-r, and-both}
 use Rattle.rules.specs.Facts.{allSome}
 use Rattle.rules.specs.Sound.{lastLeft}
 use Rattle.state.specs.Facts.{QueueFit}
-use Rattle.state.specs.Queue.{noPlace, placeAt, withPlace, queued, begunOne, emptiedQueue, waiting, wordsOf, moved, freed, isDone, returned}
+use Rattle.state.specs.Queue.{noPlace, newPlace, placeAt, withPlace, queued, begunOne, emptiedQueue, waiting, wordsOf, moved, freed, isDone, returned}
 use Rattle.state.specs.declared.Place.{Place}
 use Rattle.state.specs.declared.Queue.{Queue}
 use Rattle.state.specs.declared.Returned.{Returned}
@@ -162,17 +162,17 @@ fit-begun q f h = record { order = omega arith; most = f .most; words = f .words
 pub fit-emptied : (q : Queue) → QueueFit q → QueueFit (emptiedQueue q)
 fit-emptied q f = record { order = omega arith; most = omega arith; words = λ k b. absurd (omega arith); ends = λ k b. absurd (omega arith) }
 
--- new marks of a place that has begun
+-- new marks of a command that has begun
 pub kept-marked : (q : Queue) (i : ℕ) (p : Place) → QueueFit q → length (q .places) ≡ 8 → i < q .begun
-    → p .words ≡ placeAt q i .words → p .ends ≡ placeAt q i .ends → Kept q (withPlace q i p)
+    → p .words ≤ placeAt q i .words → p .ends ≤ placeAt q i .ends → Kept q (withPlace q i p)
 kept-marked q i p f l h w e =
     let b : i < q .used = omega (arith, f .order) in
     record {
       fit = record {
         order = f .order;
         most = f .most;
-        words = λ k c. set-keeps (λ (x : Place). x .words ≤ 4096) (q .places) i k p (rw w (f .words i b)) (f .words k c);
-        ends = λ k c. set-keeps (λ (x : Place). x .ends ≤ 127) (q .places) i k p (rw e (f .ends i b)) (f .ends k c);
+        words = λ k c. set-keeps (λ (x : Place). x .words ≤ 4096) (q .places) i k p (omega (arith, f .words i b)) (f .words k c);
+        ends = λ k c. set-keeps (λ (x : Place). x .ends ≤ 127) (q .places) i k p (omega (arith, f .ends i b)) (f .ends k c);
       };
       eight = rw length-set l;
       waits = waiting-marked q i p h;
@@ -200,10 +200,12 @@ kept-freed q i f l h = record { fit = fit-freed q i f l h; eight = eight-freed q
 
 -- a place given back with new marks
 pub kept-returned : (q : Queue) (i : ℕ) (p : Place) → QueueFit q → length (q .places) ≡ 8 → i < q .begun
-    → p .words ≡ placeAt q i .words → p .ends ≡ placeAt q i .ends → Kept q (returned q i p .queue)
-unfolding returned
+    → p .words ≤ placeAt q i .words → p .ends ≤ placeAt q i .ends → Kept q (returned q i p .queue)
+unfolding returned newPlace
 kept-returned q i p f l h w e =
-    pick-keeps (λ (r : Returned). Kept q (r .queue)) (isDone p) _ _ (λ d. kept-freed q i f l h) (λ d. kept-marked q i p f l h w e)
+    pick-keeps (λ (r : Returned). Kept q (r .queue)) (isDone p) _ _
+    (λ d. pick-keeps (Kept q) _ _ _ (λ b. kept-marked q i (newPlace 0 (p .ends) (p .store)) f l h (omega arith) e) (λ b. kept-freed q i f l h))
+    (λ d. kept-marked q i p f l h w e)
 
 -- What the youngest of those that wait takes; where none waits, the command under way.
 unfoldable pub lastOf : List Place → ℕ → ℕ

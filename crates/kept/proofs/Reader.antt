@@ -31,16 +31,16 @@ module _ (belongs : Bool) (q : Queue) (f : QueueFit q) (l : length (q .places) �
 
   pub kept-word-read : (w : ℕ) → Kept q (wordRead belongs q w)
   unfolding wordRead
-  kept-word-read w = pick-keeps (Kept q) _ _ _ (λ b. kept-marked q (claimed q) _ f l (claim-begun b) refl refl) (λ b. kept-same q f l)
+  kept-word-read w = pick-keeps (Kept q) _ _ _ (λ b. kept-marked q (claimed q) _ f l (claim-begun b) (omega arith) (omega arith)) (λ b. kept-same q f l)
 
   pub kept-error-read : Kept q (errorRead belongs q)
   unfolding errorRead
-  kept-error-read = pick-keeps (Kept q) _ _ _ (λ b. kept-marked q (claimed q) _ f l (claim-begun b) refl refl) (λ b. kept-same q f l)
+  kept-error-read = pick-keeps (Kept q) _ _ _ (λ b. kept-marked q (claimed q) _ f l (claim-begun b) (omega arith) (omega arith)) (λ b. kept-same q f l)
 
   pub kept-end-read : Kept q (endRead belongs q .queue)
   unfolding endRead
   kept-end-read =
-      pick-keeps (λ (r : Returned). Kept q (r .queue)) _ _ _ (λ b. kept-returned q (claimed q) _ f l (claim-begun b) refl refl) (λ b. kept-same q f l)
+      pick-keeps (λ (r : Returned). Kept q (r .queue)) _ _ _ (λ b. kept-returned q (claimed q) _ f l (claim-begun b) (omega arith) (omega arith)) (λ b. kept-same q f l)
 
 -- what the reader's half keeps, with the ear that it got
 pub record Takes (q : Queue) (e : Ear) (t : Taken) : Type 0 where

@@ -5,16 +5,18 @@ use mathlib.Core.List.{List, [], _∷_}
 use Prim.Native.Nat.{ℕ, zero, suc, _+_, _-_, _≤_, _<_}
 use native.Mathlib.Nat.{mod-lt}
 use native.Mathlib.Omega.{arith}
+use lib.Dec.{leb}
 use lib.ListN.{length}
 use borrow.Author.Tests.{ltb-true, ltb-false}
-use Rattle.base.specs.Pick.{pick, pick-keeps, and-l, and-r}
+use Rattle.base.specs.Pick.{pick, pick-keeps, and-r}
 use Rattle.line.specs.Format.{pieceLength}
 use Rattle.next.specs.Next.{choose, isStarve}
-use Rattle.sender.specs.Sender.{wordSent, queueSent, senderAfter, advanced, placeSent, finished, sentBy, tickSender}
+use Rattle.sender.specs.Sender.{wordSent, queueSent, senderAfter, advanced, placeSent, commandSent, finished, sentBy, tickSender}
 use Rattle.next.specs.declared.Next.{Next}
 use Rattle.next.specs.declared.Next.the-variants.{GoOn, LoadWord, Starve, LoadEnd, StartWords, StartEnds, Stay}
 use Rattle.state.specs.Facts.{QueueFit}
-use Rattle.state.specs.Queue.{placeAt, waiting, wordsOf}
+use Rattle.state.specs.Queue.{placeAt, lastBegun, waiting, wordsOf}
+use Rattle.queue.proofs.Laws.{busy-begun, speaking-begun}
 use Rattle.state.specs.Sending.{idle}
 use Rattle.state.specs.declared.Place.{Place}
 use Rattle.state.specs.declared.Queue.{Queue}
@@ -78,18 +80,22 @@ unfolding queueSent
 kept-sent q left w f l =
     pick-keeps (Kept q) _ _ _
     (λ b. let h : 0 < q .begun = ltb-true _ _ b in
-    kept-marked q (q .begun - 1) (wordSent (placeAt q (q .begun - 1)) left w) f l (omega arith) (unfold wordSent in refl) (unfold wordSent in refl))
+    kept-marked q (q .begun - 1) (wordSent (placeAt q (q .begun - 1)) left w) f l (omega arith) (unfold wordSent in omega arith) (unfold wordSent in omega arith))
     (λ b. kept-same q f l)
 
--- the place of a command that has ended is given back
+-- the places of a command that has ended, or whose words have, are given back
 pub kept-finished : (s : Sending) → QueueFit (s .queue) → length (s .queue .places) ≡ 8 → Kept (s .queue) (finished s .queue)
 unfolding finished
 kept-finished s f l =
     pick-keeps (λ (r : Returned). Kept (s .queue) (r .queue)) _ _ _
-    (λ b. let h : 0 < s .queue .begun = ltb-true _ _ (and-l _ _ (and-r (idle (s .sender)) _ b)) in
-    kept-returned (s .queue) (s .queue .begun - 1) (placeSent (placeAt (s .queue) (s .queue .begun - 1))) f l (omega arith)
-    (unfold placeSent in refl) (unfold placeSent in refl))
-    (λ b. kept-same (s .queue) f l)
+    (λ b. let h : 0 < s .queue .begun = busy-begun (s .queue) (and-r (idle (s .sender)) _ b) in
+    kept-returned (s .queue) (s .queue .begun - 1) (commandSent (lastBegun (s .queue))) f l (omega arith)
+    (unfold commandSent in omega arith) (unfold commandSent in omega arith))
+    (λ b. pick-keeps (λ (r : Returned). Kept (s .queue) (r .queue)) _ _ _
+    (λ c. let h : 0 < s .queue .begun = speaking-begun (s .queue) (and-r (leb 18 (s .sender .gone)) _ c) in
+    kept-returned (s .queue) (s .queue .begun - 1) (placeSent (lastBegun (s .queue))) f l (omega arith)
+    (unfold placeSent in omega arith) (unfold placeSent in omega arith))
+    (λ c. kept-same (s .queue) f l))
 
 -- what is still to come is for words after the one that is taken
 room-loaded : (ps : List Place) (count left c m : ℕ) → 0 < left → 0 < count → count + c ≡ left + wordsOf ps + m → c ≤ lastOf ps left → (0 < c → m ≡ 0)

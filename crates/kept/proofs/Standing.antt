@@ -12,12 +12,15 @@ use borrow.Author.Tests.{ltb-true, ltb-false, lt-ltb, le-ltb, eqb-true, eqb-fals
 use Rattle.base.specs.Pick.{pick, pick-keeps, and-l, and-r, and-both}
 use Rattle.rules.specs.Facts.{Standing}
 use Rattle.place_rules.specs.Places.{isFresh, waits, awaits}
-use Rattle.line_rules.specs.Line.{lastBegun, isUnread}
+use Rattle.line_rules.specs.Line.{isUnread}
 use Rattle.state.specs.Facts.{QueueFit}
-use Rattle.state.specs.Queue.{noPlace, placeAt, withPlace, queued, begunOne, emptiedQueue, underWay, moved, freed, firstUnread, claimed, isDone, returned}
+use Rattle.state.specs.Queue.{noPlace, placeAt, withPlace, queued, begunOne, emptiedQueue, underWay, moved, freed, firstUnread, claimed, isDone, returned, lastBegun, speaks, speaking, placesOf, placesIn, inUse}
 use Rattle.state.specs.declared.Place.{Place}
 use Rattle.state.specs.declared.Queue.{Queue}
 use Rattle.state.specs.declared.Returned.{Returned}
+use Rattle.base.specs.Truth.{never, none-left, and-none}
+use Rattle.queue.proofs.Laws.{busy-begun}
+use Rattle.kept.proofs.InUse.{same-places, in-use-put, in-use-queued}
 use Rattle.kept.proofs.Queue.{place-freed, moved-up, begun-freed, used-freed, eight-freed}
 
 -- 1. The three meanings of a place.
@@ -25,28 +28,35 @@ use Rattle.kept.proofs.Queue.{place-freed, moved-up, begun-freed, used-
 pub awaits-sent : (p : Place) → awaits p ≡ true → p .sent ≡ true
 awaits-sent p h = search (and-l, and-r)
 
+pub awaits-ended : (p : Place) → awaits p ≡ true → p .ends ≡ 0
+awaits-ended p h = eqb-true _ _ (search (and-l, and-r))
+
 pub awaits-undone : (p : Place) → awaits p ≡ true → isDone p ≡ false
 awaits-undone p h =
     let s : p .sent ≡ true = search (and-l, and-r) in
     let r : p .read ≡ false = not-true _ (search (and-l, and-r)) in
-    let w : 0 < p .words = ltb-true _ _ (and-r (p .sent && not (p .read)) _ h) in
+    let w : 0 < p .words = ltb-true _ _ (search (and-l, and-r)) in
     let z : eqb (p .words) 0 ≡ false = ne-eqb (p .words) 0 (λ e. absurd (omega arith)) in
     rw (s, r, z)
 
 -- sent and not done: it awaits its reading
-pub undone-awaits : (p : Place) → p .sent ≡ true → isDone p ≡ false → awaits p ≡ true
-undone-awaits p s d = go (p .read) (p .words) (rw s at d)
+pub undone-awaits : (p : Place) → p .sent ≡ true → p .ends ≡ 0 → isDone p ≡ false → awaits p ≡ true
+undone-awaits p s o d = go (p .read) (p .words) (rw s at d)
   where
-    go : (r : Bool) (n : ℕ) → (r || eqb n 0) ≡ false → (p .sent && not r && ltb 0 n) ≡ true
+    go : (r : Bool) (n : ℕ) → (r || eqb n 0) ≡ false → (p .sent && not r && ltb 0 n && eqb (p .ends) 0) ≡ true
     go true n e = cc
     go false zero e = cc
-    go false (suc n) e = rw (s, lt-ltb 0 (suc n) (omega arith))
+    go false (suc n) e = rw (s, o, lt-ltb 0 (suc n) (omega arith))
 
 unsent-undone : (p : Place) → p .sent ≡ false → isDone p ≡ false
 unsent-undone p s = rw s
 
 pub waits-unsent : (p : Place) → waits p ≡ true → p .sent ≡ false
 waits-unsent p h = not-true _ (search (and-l, and-r))
+
+-- one that waits without words has ENDs
+pub waits-ends : (p : Place) → waits p ≡ true → p .words ≡ 0 → 0 < p .ends
+waits-ends p h w = let s : 0 < p .words + p .ends = ltb-true _ _ (and-l _ (isFresh p) h) in omega arith
 
 -- 2. Places one by one.
 
@@ -66,16 +76,38 @@ freed-above q i k b h = place-freed q i k b ∙ moved-up (q .places) i k h
 
 -- 3. What the operations on places that have begun keep: their meaning, the command under way, and the oldest place where it is unread.
 
+-- of the command under way: what it has still to send is as it was; or, its words sent, their place is freed
+pub data Onward (p o : Place) : Type 0 where
+  as-it-was : o .words ≡ p .words → o .ends ≡ p .ends → o .sent ≡ p .sent → Onward p o
+  words-freed : p .sent ≡ true → o .words ≡ 0 → o .ends ≡ p .ends → Onward p o
+
 pub record Steady (q r : Queue) : Type 0 where
   pub standing : Standing r
   pub busy : underWay r ≡ underWay q
-  pub last : underWay q ≡ true → (lastBegun r .words ≡ lastBegun q .words) × (lastBegun r .ends ≡ lastBegun q .ends)
+  pub speech : speaking r ≡ speaking q
+  pub last : underWay q ≡ true → Onward (lastBegun q) (lastBegun r)
+
+-- words that are not sent are under way
+pub silent-rest : (q : Queue) → underWay q ≡ false → speaking q ≡ false
+silent-rest q h = go (ltb 0 (q .begun)) (lastBegun q .sent) (lastBegun q .ends) h
+  where
+    go : (b t : Bool) (n : ℕ) → (b && (not t || ltb 0 n)) ≡ false → (b && (ltb 0 (lastBegun q .words) && not t)) ≡ false
+    go true true n e = and-none (ltb 0 (lastBegun q .words)) false refl
+    go true false n e = cc
+    go false t n e = refl
 
 abbrev pub Unread : Queue → Queue → Type 0
 Unread q r = isUnread q ≡ true → (isUnread r ≡ true) × (placeAt r 0 .store ≡ placeAt q 0 .store)
 
+pub speaks-busy : (q : Queue) → speaking q ≡ true → underWay q ≡ true
+speaks-busy q h = go (underWay q) refl
+  where
+    go : (t : Bool) → underWay q ≡ t → t ≡ true
+    go true e = refl
+    go false e = never (speaking q) h (silent-rest q e)
+
 pub steady-same : (q : Queue) → Standing q → Steady q q
-steady-same q s = record { standing = s; busy = refl; last = λ h. (refl, refl) }
+steady-same q s = record { standing = s; busy = refl; speech = refl; last = λ h. as-it-was refl refl refl }
 
 pub unread-same : (q : Queue) → Unread q q
 unread-same q h = (h, refl)
@@ -118,12 +150,14 @@ module _ (q : Queue) (i : ℕ) (p : Place) (f : QueueFit q) (l : length (q .plac
   pub marked-steady : Standing q → Steady q (withPlace q i p)
   marked-steady s = record {
     standing = record {
-      older = λ k b. let o = alike-at k in rw (o .sent, o .read, o .words) (s .older k b);
+      older = λ k b. let o = alike-at k in rw (o .sent, o .read, o .words, o .ends) (s .older k b);
       youngest = λ b. let o = alike-at (q .begun - 1) in rw (o .sent, o .read, o .words) (s .youngest b);
       fresh = λ k b u. rw (other-place q i p k (λ e. absurd (omega arith))) (s .fresh k b u);
+      eight = omega (arith, s .eight, in-use-put q i p (omega (arith, same-places p (placeAt q i) (a .words) (a .ends))));
     };
-    busy = let o = alike-at (q .begun - 1) in rw (o .sent);
-    last = λ b. let o = alike-at (q .begun - 1) in (o .words, o .ends);
+    busy = let o = alike-at (q .begun - 1) in rw (o .sent, o .ends);
+    speech = let o = alike-at (q .begun - 1) in rw (o .words, o .sent);
+    last = λ b. let o = alike-at (q .begun - 1) in as-it-was (o .words) (o .ends) (o .sent);
   }
 
   pub marked-unread : Unread q (withPlace q i p)
@@ -131,7 +165,7 @@ module _ (q : Queue) (i : ℕ) (p : Place) (f : QueueFit q) (l : length (q .plac
 
 -- 5. A command queued, begun; the queue emptied.
 module _ (q : Queue) (f : QueueFit q) (l : length (q .places) ≡ 8) (s : Standing q) where
-  module _ (p : Place) (h : q .used < 8) (w : waits p ≡ true) where
+  module _ (p : Place) (h : q .used < 8) (w : waits p ≡ true) (n : inUse q + placesOf p ≤ 8) where
     queued-other : (k : ℕ) → k < q .used → placeAt (queued q p) k ≡ placeAt q k
     queued-other k b = getD-set-other (q .places) (q .used) k p noPlace (λ e. absurd (omega arith))
 
@@ -141,10 +175,12 @@ module _ (q : Queue) (f : QueueFit q) (l : length (q .places) ≡ 8) (s : Standi
         older = λ k b. rw (queued-other k (omega (arith, f .order))) (s .older k b);
         youngest = λ b. rw (queued-other (q .begun - 1) (omega (arith, f .order))) (s .youngest b);
         fresh = λ k b u. go k b u (ltb k (q .used)) refl;
+        eight = rw (in-use-queued q p l h) n;
       };
-      busy = at-last (q .begun) refl;
-      last = λ b. let z : 0 < q .begun = ltb-true _ _ (and-l _ (not (lastBegun q .sent)) b) in
-          rw (queued-other (q .begun - 1) (omega (arith, f .order))) (refl, refl);
+      busy = at-last (λ (x : Place). not (x .sent) || ltb 0 (x .ends)) (q .begun) refl;
+      speech = at-last speaks (q .begun) refl;
+      last = λ b. let z : 0 < q .begun = busy-begun q b in
+          rw (queued-other (q .begun - 1) (omega (arith, f .order))) (as-it-was refl refl refl);
     }
       where
         go : (k : ℕ) → q .begun ≤ k → k < q .used + 1 → (t : Bool) → ltb k (q .used) ≡ t → waits (placeAt (queued q p) k) ≡ true
@@ -154,9 +190,10 @@ module _ (q : Queue) (f : QueueFit q) (l : length (q .places) ≡ 8) (s : Standi
             let n : k ≡ q .used = omega arith in
             rw (n, getD-set-same (q .places) (q .used) p noPlace (omega arith)) w
 
-        at-last : (n : ℕ) → q .begun ≡ n → underWay (queued q p) ≡ underWay q
-        at-last zero e = rw e
-        at-last (suc n) e = rw (queued-other (q .begun - 1) (omega (arith, f .order)))
+        at-last : (T : Place → Bool) (n : ℕ) → q .begun ≡ n
+            → (ltb 0 (q .begun) && T (lastBegun (queued q p))) ≡ (ltb 0 (q .begun) && T (lastBegun q))
+        at-last T zero e = rw e refl
+        at-last T (suc n) e = rw (queued-other (q .begun - 1) (omega (arith, f .order)))
 
     pub queued-unread : Unread q (queued q p)
     queued-unread u =
@@ -165,12 +202,12 @@ module _ (q : Queue) (f : QueueFit q) (l : length (q .places) ≡ 8) (s : Standi
         unread-by q (queued q p) z (rw e) (rw e) (rw e) u
 
   -- not under way: what has begun is sent
-  pub rested-sent : underWay q ≡ false → 0 < q .begun → lastBegun q .sent ≡ true
-  rested-sent u b = go (lastBegun q .sent) (rw (lt-ltb 0 (q .begun) b) at u)
+  pub rested-awaits : underWay q ≡ false → 0 < q .begun → awaits (lastBegun q) ≡ true
+  rested-awaits u b = go (lastBegun q .sent) refl (rw (lt-ltb 0 (q .begun) b) at u)
     where
-      go : (t : Bool) → not t ≡ false → t ≡ true
-      go true e = refl
-      go false e = cc
+      go : (t : Bool) → lastBegun q .sent ≡ t → (not t || ltb 0 (lastBegun q .ends)) ≡ false → awaits (lastBegun q) ≡ true
+      go true h e = undone-awaits (lastBegun q) h (none-left _ e) (s .youngest b)
+      go false h e = cc
 
   module _ (h : q .begun < q .used) where
     pub begun-last : lastBegun (begunOne q) ≡ placeAt q (q .begun)
@@ -181,6 +218,7 @@ module _ (q : Queue) (f : QueueFit q) (l : length (q .places) ≡ 8) (s : Standi
       older = λ k b. go k b (ltb (suc k) (q .begun)) refl;
       youngest = λ b. rw begun-last (unsent-undone (placeAt q (q .begun)) (waits-unsent (placeAt q (q .begun)) (s .fresh (q .begun) (omega arith) h)));
       fresh = λ k b c. s .fresh k (omega arith) c;
+      eight = s .eight;
     }
       where
         go : (k : ℕ) → suc k < q .begun + 1 → (t : Bool) → ltb (suc k) (q .begun) ≡ t → awaits (placeAt q k) ≡ true
@@ -189,7 +227,7 @@ module _ (q : Queue) (f : QueueFit q) (l : length (q .places) ≡ 8) (s : Standi
             let d : q .begun ≤ suc k = ltb-false _ _ e in
             let z : 0 < q .begun = omega arith in
             let n : q .begun - 1 ≡ k = omega arith in
-            rw n at (undone-awaits (lastBegun q) (rested-sent u z) (s .youngest z))
+            rw n at (rested-awaits u z)
 
     pub begun-busy : underWay (begunOne q) ≡ true
     begun-busy =
@@ -200,8 +238,10 @@ module _ (q : Queue) (f : QueueFit q) (l : length (q .places) ≡ 8) (s : Standi
     begun-unread = unread-by q (begunOne q) (omega arith) refl refl refl
 
 pub emptied-standing : (q : Queue) → Standing (emptiedQueue q)
+unfolding placesIn
 emptied-standing q = record {
   older = λ k b. absurd (omega arith);
   youngest = λ b. absurd (omega arith);
   fresh = λ k b u. absurd (omega arith);
+  eight = omega arith;
 }

@@ -5,18 +5,18 @@ use Prim.Native.Nat.{ℕ, _+_, _-_, _≤_, _<_}
 use native.Mathlib.Omega.{arith}
 use lib.Dec.{ltb, leb, eqb}
 use lib.ListN.{length}
-use borrow.Author.Tests.{ltb-true, eqb-true, lt-ltb, le-leb, eq-eqb}
+use borrow.Author.Tests.{ltb-true, leb-true, eqb-true, lt-ltb, le-leb, eq-eqb}
 use Rattle.base.specs.Pick.{pick, pick-keeps, and-l, and-r, and-both}
 use Rattle.line.specs.Format.{pieceLength}
 use Rattle.rules.specs.Facts.{Standing, SenderFit, allSome}
 use Rattle.place_rules.specs.Places.{isFresh, waits}
-use Rattle.line_rules.specs.Line.{pieceSound, lastBegun, isUnread}
+use Rattle.line_rules.specs.Line.{endSound, pieceSound, isUnread}
 use Rattle.next.specs.Next.{choose}
-use Rattle.sender.specs.Sender.{wordSent, queueSent, senderAfter, advanced, placeSent, finished, sentBy, tickSender}
+use Rattle.sender.specs.Sender.{wordSent, queueSent, senderAfter, advanced, placeSent, commandSent, wordsOver, finished, sentBy, tickSender}
 use Rattle.next.specs.declared.Next.{Next}
 use Rattle.next.specs.declared.Next.the-variants.{GoOn, LoadWord, Starve, LoadEnd, StartWords, StartEnds, Stay}
 use Rattle.state.specs.Facts.{QueueFit}
-use Rattle.state.specs.Queue.{placeAt, queued, begunOne, underWay, waiting, returned}
+use Rattle.state.specs.Queue.{placeAt, queued, begunOne, underWay, waiting, returned, lastBegun, speaks, speaking, placesOf, inUse}
 use Rattle.state.specs.Sending.{owing, idle, stored, done}
 use Rattle.state.specs.declared.Deed.{Deed}
 use Rattle.state.specs.declared.Deed.the-variants.{Leave, Enqueue, TakeBack, ClearAll, ResetAll}
@@ -26,18 +26,20 @@ use Rattle.state.specs.declared.Returned.{Returned}
 use Rattle.state.specs.declared.Sender.{Sender}
 use Rattle.state.specs.declared.Sending.{Sending}
 use Rattle.state.specs.declared.Store.{Store}
-use Rattle.kept.proofs.Freed.{Rests, sent-rests}
-use Rattle.kept.proofs.Pieces.{fit-steady, piece-rests, piece-goes-on, piece-loaded, piece-ended}
+use Rattle.base.specs.Truth.{and-none, and-first}
+use Rattle.queue.proofs.Laws.{busy-begun, speaking-begun, has-record}
+use Rattle.kept.proofs.Freed.{sent-rests, words-spoken}
+use Rattle.kept.proofs.Pieces.{fit-steady, piece-rests, piece-goes-on, piece-loaded, piece-ended, piece-starved, piece-over, piece-spoken}
 use Rattle.kept.proofs.Sender.{over, Chosen, chosen, rules-advanced}
-use Rattle.kept.proofs.Standing.{Alike, Steady, Unread, steady-same, unread-same, unread-trans, marked-steady, marked-unread, queued-steady, queued-unread, begun-standing, begun-busy, begun-last, begun-unread, emptied-standing}
+use Rattle.kept.proofs.Standing.{Alike, Steady, Unread, silent-rest, speaks-busy, waits-unsent, waits-ends, steady-same, unread-same, unread-trans, marked-steady, marked-unread, queued-steady, queued-unread, begun-standing, begun-busy, begun-last, begun-unread, emptied-standing}
 use Rattle.kept.specs.Rules.{SendRules, Stands}
 
 -- 1. The deeds of a frame.
 
--- what a deed asks beyond room: a place as it is queued, with something to send; for a soft reset an idle sender
+-- what a deed asks: room for a command as it is queued, with something to send; for a soft reset an idle sender
 abbrev pub Asks : Sending → Deed → Type 0
 Asks s Leave = Unit {0}
-Asks s (Enqueue p) = (s .queue .used < 8) × (waits p ≡ true)
+Asks s (Enqueue p) = (inUse (s .queue) + placesOf p ≤ 8) × (waits p ≡ true)
 Asks s (TakeBack n) = Unit {0}
 Asks s ClearAll = Unit {0}
 Asks s ResetAll = idle (s .sender) ≡ true
@@ -50,12 +52,12 @@ pub stands-done : (s : Sending) (st : Store) (d : Deed) → QueueFit (s .queue) 
 unfolding done stored owing pieceSound pick
 stands-done s st Leave f l t a = record { standing = t .standing; sender = t .sender }
 stands-done s st (Enqueue p) f l t a =
-    let k : Steady (s .queue) (queued (s .queue) p) = queued-steady (s .queue) f l (t .standing) p (a .0) (a .1) in
+    let k : Steady (s .queue) (queued (s .queue) p) = queued-steady (s .queue) f l (t .standing) p (has-record (s .queue) p l (a .0)) (a .1) (a .0) in
     record { standing = k .standing; sender = fit-steady (s .sender) (s .queue) (queued (s .queue) p) k (t .sender) }
 stands-done s st (TakeBack n) f l t a = record { standing = t .standing; sender = t .sender }
 stands-done s st ClearAll f l t a = record {
   standing = emptied-standing (s .queue);
-  sender = record { piece = refl; rest = refl };
+  sender = record { piece = refl; rest = refl; over = refl };
 }
 stands-done s st ResetAll f l t a = record {
   standing = emptied-standing (s .queue);
@@ -63,17 +65,14 @@ stands-done s st ResetAll f l t a = record {
     piece =
         piece-rests (s .sender) _ _ (s .sender .piece) _ (t .sender .piece) (idle-left (s .sender) a .0)
         (idle-left (s .sender) a .1);
-    rest = none (idle (s .sender));
+    rest = and-none (idle (s .sender)) false refl;
+    over = and-none (leb 18 (s .sender .gone)) false refl;
   };
 }
-  where
-    none : (b : Bool) → (b && false) ≡ false
-    none true = refl
-    none false = refl
 
 -- 2. The sender's half of a tick.
 
--- before its place may be sent, a tick leaves the piece's rule; an idle sender may still have its place under way
+-- before its places may be sent, a tick leaves the piece's rule; an idle sender may still have its command under way
 pub record Moves (s : Sending) : Type 0 where
   pub standing : Standing (s .queue)
   pub piece : pieceSound (s .sender .piece) (s .sender) (underWay (s .queue)) (lastBegun (s .queue)) ≡ true
@@ -104,6 +103,15 @@ module _ (s : Sending) (w : ℕ) (f : QueueFit (s .queue)) (l : length (s .queue
       marked-unread (s .queue) (s .queue .begun - 1) _ f l (omega arith) word-alike)
       (λ b. unread-same (s .queue))
 
+  first-waits : s .queue .begun < s .queue .used → waits (placeAt (s .queue) (s .queue .begun)) ≡ true
+  first-waits h = t .standing .fresh (s .queue .begun) (omega arith) h
+
+  -- with an END gone its words are sent
+  last-silent : 18 ≤ s .sender .gone → underWay (s .queue) ≡ true → speaks (lastBegun (s .queue)) ≡ false
+  last-silent g u =
+      let k : (true && speaking (s .queue)) ≡ false = rw (le-leb 18 (s .sender .gone) g) at (t .sender .over) in
+      rw (lt-ltb 0 (s .queue .begun) (busy-begun (s .queue) u)) at k
+
   pub moves-by : (n : Next) → Chosen s n → Moves (advanced n s w)
   unfolding advanced senderAfter
   moves-by GoOn c = record {
@@ -116,11 +124,13 @@ module _ (s : Sending) (w : ℕ) (f : QueueFit (s .queue)) (l : length (s .queue
         standing = sent-steady .standing;
         piece = piece-loaded (s .sender) _ _ (s .sender .piece) w (k .piece) (c .1);
       }
-  moves-by Starve c = record { standing = t .standing; piece = unfold pieceSound in le-leb 0 (pick (underWay (s .queue)) (lastBegun (s .queue) .ends) 0) (omega arith) }
+  moves-by Starve c = record {
+    standing = t .standing;
+    piece = piece-starved (s .sender) _ _ (s .sender .piece) (t .sender .piece) (c .1);
+  }
   moves-by LoadEnd c = record {
     standing = t .standing;
-    piece = unfold pieceSound in
-        piece-ended (s .sender) _ _ (s .sender .piece) (t .sender .piece) (c .1);
+    piece = piece-ended (s .sender) _ _ (s .sender .piece) (t .sender .piece) (c .1) (c .2) (c .0) last-silent;
   }
   moves-by StartWords c =
       let u : underWay (s .queue) ≡ false = rests-idle s t (c .0) (c .1) (c .2) in
@@ -131,6 +141,7 @@ module _ (s : Sending) (w : ℕ) (f : QueueFit (s .queue)) (l : length (s .queue
             rw (
               eq-eqb (placeAt (s .queue) (s .queue .begun) .words) _ refl,
               lt-ltb 0 (placeAt (s .queue) (s .queue .begun) .words) (c .4),
+              waits-unsent (placeAt (s .queue) (s .queue .begun)) (first-waits (c .3)),
               eq-eqb (placeAt (s .queue) (s .queue .begun) .ends + 1) _ refl,
             ));
       }
@@ -139,8 +150,13 @@ module _ (s : Sending) (w : ℕ) (f : QueueFit (s .queue)) (l : length (s .queue
       record {
         standing = begun-standing (s .queue) f l (t .standing) (c .3) u;
         piece = rw (begun-busy (s .queue) f l (t .standing) (c .3), begun-last (s .queue) f l (t .standing) (c .3))
-            (unfold pieceSound pick in
-            le-leb (placeAt (s .queue) (s .queue .begun) .ends - 1) (placeAt (s .queue) (s .queue .begun) .ends) (omega arith));
+            (unfold pieceSound endSound pick in
+            let m : 0 < placeAt (s .queue) (s .queue .begun) .ends = waits-ends (placeAt (s .queue) (s .queue .begun)) (first-waits (c .3)) (c .4) in
+            rw (
+              c .4,
+              le-leb (placeAt (s .queue) (s .queue .begun) .ends - 1) (placeAt (s .queue) (s .queue .begun) .ends) (omega arith),
+              lt-ltb (placeAt (s .queue) (s .queue .begun) .ends - 1) (placeAt (s .queue) (s .queue .begun) .ends) (omega arith),
+            ));
       }
   moves-by Stay c = record { standing = t .standing; piece = unfold pieceSound in rw (rests-idle s t (c .0) (c .1) (c .2)) }
 
@@ -154,7 +170,7 @@ module _ (s : Sending) (w : ℕ) (f : QueueFit (s .queue)) (l : length (s .queue
   unread-by-next StartEnds c = begun-unread (s .queue) f l (t .standing) (c .3)
   unread-by-next Stay c = unread-same (s .queue)
 
--- the command that has ended is sent
+-- the command that has ended is sent, or its words are
 abbrev withQueue : Sending → Queue → Sending
 withQueue s q = record { tx = s .tx; queue = q; sender = s .sender }
 
@@ -162,37 +178,64 @@ pub record Ends (s : Sending) (q : Queue) : Type 0 where
   pub stands : Stands (withQueue s q)
   pub unread : Unread (s .queue) q
 
-pub finished-ends : (s : Sending) → QueueFit (s .queue) → length (s .queue .places) ≡ 8 → Moves s → Ends s (finished s .queue)
-unfolding finished
-finished-ends s f l m =
-    pick-keeps (λ (r : Returned). Ends s (r .queue)) _ _ _ (λ b. sent b)
-    (λ b. record { stands = record { standing = m .standing; sender = record { piece = m .piece; rest = b } }; unread = unread-same (s .queue) })
-  where
-    none : (b : Bool) → (b && false) ≡ false
-    none true = refl
-    none false = refl
-
-    sent : (idle (s .sender) && underWay (s .queue)) ≡ true
-        → Ends s (returned (s .queue) (s .queue .begun - 1) (placeSent (placeAt (s .queue) (s .queue .begun - 1))) .queue)
-    sent b =
-        let i : idle (s .sender) ≡ true = and-l _ (underWay (s .queue)) b in
-        let u : underWay (s .queue) ≡ true = and-r (idle (s .sender)) _ b in
-        let z : 0 < s .queue .begun = ltb-true _ _ (and-l _ (not (lastBegun (s .queue) .sent)) u) in
-        let r = sent-rests (s .queue) f l (m .standing) z (placeSent (lastBegun (s .queue))) (unfold placeSent in refl) (unfold placeSent in refl)
-        (unfold placeSent in refl)
-        (unfold placeSent in refl) in
-        record {
-          stands = record {
-            standing = r .standing;
-            sender = record {
-              piece = rw (r .rest)
-                  (piece-rests (s .sender) _ _ (s .sender .piece) _ (m .piece) (idle-left (s .sender) i .0)
-                  (idle-left (s .sender) i .1));
-              rest = rw (r .rest) (none (idle (s .sender)));
-            };
+module _ (s : Sending) (f : QueueFit (s .queue)) (l : length (s .queue .places) ≡ 8) (m : Moves s) where
+  command-ends : (idle (s .sender) && underWay (s .queue)) ≡ true
+      → Ends s (returned (s .queue) (s .queue .begun - 1) (commandSent (lastBegun (s .queue))) .queue)
+  unfolding commandSent
+  command-ends b =
+      let i : idle (s .sender) ≡ true = and-l _ (underWay (s .queue)) b in
+      let z : 0 < s .queue .begun = busy-begun (s .queue) (and-r (idle (s .sender)) _ b) in
+      let r = sent-rests (s .queue) f l (m .standing) z (commandSent (lastBegun (s .queue))) refl refl refl refl refl in
+      record {
+        stands = record {
+          standing = r .standing;
+          sender = record {
+            piece = rw (r .rest)
+                (piece-rests (s .sender) _ _ (s .sender .piece) _ (m .piece) (idle-left (s .sender) i .0)
+                (idle-left (s .sender) i .1));
+            rest = and-none (idle (s .sender)) _ (r .rest);
+            over = and-none (leb 18 (s .sender .gone)) _ (silent-rest (returned (s .queue) (s .queue .begun - 1) (commandSent (lastBegun (s .queue))) .queue) (r .rest));
           };
-          unread = r .unread;
-        }
+        };
+        unread = r .unread;
+      }
+
+  quiet-last : (q : Queue) → underWay q ≡ true → speaking q ≡ false → speaks (lastBegun q) ≡ false
+  quiet-last q u h = rw (lt-ltb 0 (q .begun) (busy-begun q u)) at h
+
+  words-end : (idle (s .sender) && underWay (s .queue)) ≡ false → wordsOver s ≡ true
+      → Ends s (returned (s .queue) (s .queue .begun - 1) (placeSent (lastBegun (s .queue))) .queue)
+  unfolding placeSent
+  words-end b c =
+      let v : speaking (s .queue) ≡ true = and-r (leb 18 (s .sender .gone)) _ c in
+      let z : 0 < s .queue .begun = speaking-begun (s .queue) v in
+      let u : underWay (s .queue) ≡ true = speaks-busy (s .queue) v in
+      let i : idle (s .sender) ≡ false = and-first (idle (s .sender)) _ b u in
+      let g : 18 ≤ s .sender .gone = leb-true _ _ (and-l _ (speaking (s .queue)) c) in
+      let h : 0 < s .sender .ends = piece-over (s .sender) _ _ (s .sender .piece) refl (m .piece) g i in
+      let k = piece-spoken (s .sender) _ _ (s .sender .piece) (lastBegun (s .queue)) u (m .piece) g refl in
+      let r = words-spoken (s .queue) f l (m .standing) z (placeSent (lastBegun (s .queue))) refl refl refl refl refl (omega (arith, h, k .0)) in
+      record {
+        stands = record {
+          standing = r .standing;
+          sender = record {
+            piece = rw (r .busy) (piece-spoken (s .sender) _ _ (s .sender .piece) _ u (m .piece) g (r .ends) .1 (quiet-last (returned (s .queue) (s .queue .begun - 1) (placeSent (lastBegun (s .queue))) .queue) (r .busy) (r .silent)));
+            rest = rw i refl;
+            over = and-none (leb 18 (s .sender .gone)) _ (r .silent);
+          };
+        };
+        unread = r .unread;
+      }
+
+  pub finished-ends : Ends s (finished s .queue)
+  unfolding finished
+  finished-ends =
+      pick-keeps (λ (r : Returned). Ends s (r .queue)) _ _ _ command-ends
+      (λ b. pick-keeps (λ (r : Returned). Ends s (r .queue)) _ _ _ (words-end b)
+      (λ c. record {
+        stands = record { standing = m .standing; sender = record { piece = m .piece; rest = b; over = c } };
+        unread = unread-same (s .queue);
+      }))
 
 pub tick-stands : (s : Sending) (may : Bool) (w c m : ℕ) → SendRules s c m → Stands s
     → Stands (tickSender s may w .sending) × Unread (s .queue) (tickSender s may w .sending .queue)

@@ -1,6 +1,6 @@
 -- Laws of the definitions, in the form in which the functions' proofs ask them. Assumes nothing.
 use mathlib.Core.Path.{_≡_, refl}
-use mathlib.Core.Bool.{Bool, _&&_}
+use mathlib.Core.Bool.{Bool, not, _&&_, _||_}
 use Prim.Native.Nat.{ℕ}
 use lib.Dec.{ltb, leb, eqb}
 use Rattle.base.specs.Pick.{pick}
@@ -12,7 +12,7 @@ use Rattle.state.specs.declared.Reader.{Reader}
 use Rattle.state.specs.declared.Place.{Place}
 use Rattle.state.specs.declared.Queue.{Queue}
 use Rattle.state.specs.declared.Sender.{Sender}
-use Rattle.line_rules.specs.Line.{pieceSound, earSound, marksSound}
+use Rattle.line_rules.specs.Line.{endSound, pieceSound, earSound, marksSound}
 
 pub to-marks : (v w : Ear) (r : Reader) (q : Queue) (f : Flags) (x : Bool) → v ≡ w → x ≡ marksSound w r q f → x ≡ marksSound v r q f
 to-marks v w r q f x h e = rw h e
@@ -24,7 +24,8 @@ pub to-ear : (v w : Ear) (x : Bool) → v ≡ w → x ≡ earSound w → x ≡ e
 to-ear v w x h e = rw h e
 
 -- an END's piece, by the ENDs that it was told may be left
-pub end-told : (u : Piece) (s : Sender) (busy : Bool) (p : Place) (most : ℕ) → u ≡ EndPiece → most ≡ pick busy (p .ends) 0
-    → (ltb 0 (s .gone) && leb (s .gone) 18 && eqb (s .left) 0 && leb (s .ends) most) ≡ pieceSound u s busy p
+pub end-told : (u : Piece) (s : Sender) (busy right : Bool) (p : Place) (most : ℕ) → u ≡ EndPiece → most ≡ pick busy (p .ends) 0 → right ≡ endSound s p
+    → (ltb 0 (s .gone) && leb (s .gone) 18 && eqb (s .left) 0 && leb (s .ends) most
+    && (not busy || right)) ≡ pieceSound u s busy p
 unfolding pieceSound
-end-told u s busy p most e h = rw (e, h) refl
+end-told u s busy right p most e h k = rw (e, h, k) refl

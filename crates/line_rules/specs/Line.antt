@@ -10,30 +10,34 @@ use Rattle.line.specs.declared.Piece.{Piece}
 use Rattle.line.specs.declared.Piece.the-variants.{Pause, StartBit, WordPiece, EndPiece}
 use Rattle.registers.specs.Registers.{rxff}
 use Rattle.registers.specs.declared.Flags.{Flags}
-use Rattle.state.specs.Queue.{placeAt, underWay}
+use Rattle.state.specs.Queue.{placeAt, lastBegun, speaks, speaking, underWay}
 use Rattle.state.specs.Sending.{idle}
 use Rattle.state.specs.declared.Place.{Place}
 use Rattle.state.specs.declared.Queue.{Queue}
 use Rattle.state.specs.declared.Reader.{Reader}
 use Rattle.state.specs.declared.Sender.{Sender}
 
--- The sender by its piece: what is left is of the command whose place is under way (`busy`). A piece begins with its first bit gone. Nothing is
--- left with no place under way, but for an END that a transmit clear owes.
+-- "the words place [is sent] with the last 1 of its own END" (02 item 3): an END before that is their own, or note 13's, with none to follow; with no words,
+-- or with these sent, it is an extra one, or the words' own that has just gone out
+unfoldable pub endSound : Sender → Place → Bool
+endSound s p = pick (speaks p) (eqb (s .ends) (p .ends) || eqb (s .ends) 0) (ltb (s .ends) (p .ends) || leb endLength (s .gone))
+
+-- The sender by its piece: what is left is of the command under way (`busy`). A piece begins with its first bit gone. Nothing is left with none
+-- under way, but for an END that a transmit clear owes.
 unfoldable pub pieceSound : Piece → Sender → Bool → Place → Bool
 pieceSound Pause s busy p = eqb (s .gone) 0 && eqb (s .left) 0 && leb (s .ends) 1 && not busy
-pieceSound StartBit s busy p = eqb (s .gone) 1 && eqb (s .left) (p .words) && ltb 0 (p .words) && eqb (s .ends) (p .ends + 1) && busy
+pieceSound StartBit s busy p = eqb (s .gone) 1 && eqb (s .left) (p .words) && speaks p && eqb (s .ends) (p .ends + 1) && busy
 pieceSound (WordPiece w) s busy p =
-    ltb 0 (s .gone) && leb (s .gone) groupLength && ltb (s .left) (p .words) && eqb (s .ends) (p .ends + 1) && busy
+    ltb 0 (s .gone) && leb (s .gone) groupLength && ltb (s .left) (p .words) && speaks p && eqb (s .ends) (p .ends + 1) && busy
 pieceSound EndPiece s busy p =
     ltb 0 (s .gone) && leb (s .gone) endLength && eqb (s .left) 0 && leb (s .ends) (pick busy (p .ends) 0)
+    && (not busy || endSound s p)
 
--- the youngest place that has begun
-abbrev pub lastBegun : Queue → Place
-lastBegun q = placeAt q (q .begun - 1)
-
--- A command with extra ENDs is sent with the last bit of the last of them (docs/DECISIONS.md): an idle sender has no place under way
+-- "Each place is sent with its own last bit" (02 item 3, docs/DECISIONS.md): an idle sender has no command under way, and one with an END gone none
+-- whose words are not sent
 abbrev pub senderSound : Sender → Queue → Bool
-senderSound s q = pieceSound (s .piece) s (underWay q) (lastBegun q) && not (idle s && underWay q)
+senderSound s q =
+    pieceSound (s .piece) s (underWay q) (lastBegun q) && not (idle s && underWay q) && not (leb endLength (s .gone) && speaking q)
 
 unfoldable pub earSound : Ear → Bool
 earSound Quiet = true

@@ -2,7 +2,7 @@
 // read. It asks nothing of the state.
 ghost use mathlib.Core.Path.{_≡_};
 ghost use Rattle.base.specs.Pick.{pick};
-ghost use Rattle.line_rules.specs.Line.{pieceSound, senderSound, earSound, isUnread, heardMarks, marksSound, readerSound};
+ghost use Rattle.line_rules.specs.Line.{endSound, pieceSound, senderSound, earSound, isUnread, heardMarks, marksSound, readerSound};
 ghost use Rattle.registers.specs.Registers.{rxff as rxffOf};
 use line::Ear;
 use line::Piece;
@@ -19,6 +19,18 @@ fn ends_allowed(busy: bool, extra: u16) -> u16
     if busy { extra } else { 0 }
 }
 
+// Words that are not yet sent have an END of their own, or note 13's; else it is an extra one, or their own that has just gone out.
+fn end_sound(sender: Sender, place: Place) -> bool
+    ensures { λ r. ⌜ r ≡ endSound sender place ⌝ }
+{
+    let ends = sender.ends;
+    let speaking = (0 < place.words) & !place.sent;
+    if speaking {
+        return (ends == place.ends) | (ends == 0);
+    }
+    (ends < place.ends) | (18 <= sender.gone)
+}
+
 fn piece_sound(sender: Sender, busy: bool, place: Place) -> bool
     ensures { λ r. ⌜ r ≡ pieceSound (sender .piece) sender busy place ⌝ }
 {
@@ -28,19 +40,21 @@ fn piece_sound(sender: Sender, busy: bool, place: Place) -> bool
     let ends = sender.ends;
     let words = place.words;
     let extra = place.ends;
+    let speaking = (0 < words) & !place.sent;
     match piece {
         Piece::Pause => (gone == 0) & (left == 0) & (ends <= 1) & !busy,
         Piece::StartBit => {
             let all = ends as u32 == extra as u32 + 1;
-            (gone == 1) & (left == words) & (0 < words) & all & busy
+            (gone == 1) & (left == words) & speaking & all & busy
         }
         Piece::WordPiece(_) => {
             let all = ends as u32 == extra as u32 + 1;
-            (0 < gone) & (gone <= 17) & (left < words) & all & busy
+            (0 < gone) & (gone <= 17) & (left < words) & speaking & all & busy
         }
         Piece::EndPiece => {
             let most = ends_allowed(busy, extra);
-            (0 < gone) & (gone <= 18) & (left == 0) & (ends <= most)
+            let right = !busy | end_sound(sender, place);
+            (0 < gone) & (gone <= 18) & (left == 0) & (ends <= most) & right
         }
     }
 }
@@ -52,7 +66,9 @@ pub fn sender_sound(sender: Sender, queue: Queue) -> bool
     let last = queue::place_at(queue, state::less_one(queue.begun));
     let piece = piece_sound(sender, busy, last);
     let idle = deeds::is_idle(sender);
-    piece & !(idle & busy)
+    let over = 18 <= sender.gone;
+    let speaking = queue::is_speaking(queue);
+    piece & !(idle & busy) & !(over & speaking)
 }
 
 fn ear_sound(ear: Ear) -> bool

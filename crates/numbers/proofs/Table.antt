@@ -11,14 +11,14 @@ use Rattle.line.specs.Format.{checkBit, pieceLength, wordBit, pieceBit}
 use Rattle.line.specs.Reader.{runOn, shiftIn, atCheck, inGroup, hear}
 use Rattle.state.specs.Frame.{isForward, dataWords, mineOf, owedBy, toCome, collectSound, replySound, phaseSound}
 use Rattle.state.specs.Power.{badControl, powerUp, powerUpBad}
-use Rattle.state.specs.Queue.{noPlace, newPlace, waiting, wordsOf, moved, freed, firstUnread, claimed, returned}
+use Rattle.state.specs.Queue.{noPlace, newPlace, waiting, wordsOf, moved, freed, firstUnread, claimed, returned, placesOf, placesIn, lacks}
 use Rattle.state.specs.Rings.{written, ringAfter}
 use Rattle.state.specs.Sending.{stored, done}
 use Rattle.place_rules.specs.Places.{roleSound, slotSound, slotsBelow}
-use Rattle.line_rules.specs.Line.{pieceSound, earSound, marksSound}
+use Rattle.line_rules.specs.Line.{pieceSound, earSound, marksSound, endSound}
 use Rattle.frame_rules.specs.Frames.{otpSound, isUnmarked}
 use Rattle.next.specs.Next.{choose, bitSent, isStarve, isStart}
-use Rattle.sender.specs.Sender.{wordSent, queueSent, senderAfter, advanced, finished, sentBy, tickSender, placeSent}
+use Rattle.sender.specs.Sender.{wordSent, queueSent, senderAfter, advanced, finished, sentBy, tickSender, placeSent, commandSent}
 use Rattle.reader.specs.Reader.{wordRead, endRead, wordTaken, atEnd, ended, takenBy, tickReader, began}
 use Rattle.forwards.specs.Forward.{asksStore, guard, mineAfter, enqueues, clears, forwarded, forwardWord, forwardBegun, faulted}
 use Rattle.host.specs.Frames.{opened, dataWord, plannedIn, planned}
@@ -34,5 +34,5 @@ use Rattle.drain.specs.Drain.{runOf, drain}
 use Rattle.numbers.specs.Numbers.{then, after, powerOn, frame, noteOf, statusAfter, onceCleared, onceForced, queued, ticksOf, ownBit, isEnd, endsNext, endFrom, endTickOf, table, given, said}
 
 pub rows-hold : given table ≡ said table
-unfolding val odd bit flag highFirst pick shift crcBit crcBits crcWord crcFrom crcOf write registerWrite rows byNumber decodeOurs raised blocking err statusOf powerUpControl registerTable resetRegs cleared powerUpFlags modeAfter writeStatus writeMasked writeOf checkBit wordBit pieceBit runOn shiftIn atCheck inGroup hear mineOf owedBy toCome collectSound replySound phaseSound badControl powerUp powerUpBad noPlace newPlace waiting wordsOf moved freed firstUnread claimed returned written ringAfter stored done roleSound slotSound slotsBelow pieceSound earSound marksSound isUnmarked choose bitSent wordSent queueSent senderAfter advanced finished sentBy tickSender placeSent wordRead endRead wordTaken atEnd ended takenBy tickReader began asksStore guard mineAfter enqueues clears forwarded forwardWord forwardBegun faulted opened isQuiet isTransmitClear isReceiveClear isRefused withWrite registerWord dataWord wrongCrc forwardClosed crcDue plannedIn planned releasedIn registersClosed clearedAway received settled concluded performed powered blockedIn starvedFlags flagsSent phaseAfter controlTicked tickNote tickEnds tickHears ticked reacted turned turn step runOf drain then after powerOn frame noteOf statusAfter onceCleared onceForced queued ticksOf ownBit isEnd endsNext endFrom endTickOf table given said
+unfolding val odd bit flag highFirst pick shift crcBit crcBits crcWord crcFrom crcOf write registerWrite rows byNumber decodeOurs raised blocking err statusOf powerUpControl registerTable resetRegs cleared powerUpFlags modeAfter writeStatus writeMasked writeOf checkBit wordBit pieceBit runOn shiftIn atCheck inGroup hear mineOf owedBy toCome collectSound replySound phaseSound badControl powerUp powerUpBad noPlace newPlace waiting wordsOf moved freed firstUnread claimed returned written ringAfter stored done roleSound slotSound slotsBelow endSound pieceSound earSound marksSound isUnmarked choose bitSent wordSent queueSent senderAfter advanced finished sentBy tickSender placeSent commandSent wordRead endRead wordTaken atEnd ended takenBy tickReader began asksStore guard mineAfter enqueues clears forwarded forwardWord forwardBegun faulted opened isQuiet isTransmitClear isReceiveClear isRefused withWrite registerWord dataWord wrongCrc forwardClosed crcDue plannedIn planned releasedIn registersClosed clearedAway received settled concluded performed powered blockedIn starvedFlags flagsSent phaseAfter controlTicked tickNote tickEnds tickHears ticked reacted turned turn step runOf drain then after powerOn frame noteOf statusAfter onceCleared onceForced queued ticksOf ownBit isEnd endsNext endFrom endTickOf table given said placesOf placesIn lacks
 rows-hold = refl

@@ -15,14 +15,14 @@ use Rattle.line.specs.Format.{checkBit, pieceLength, wordBit, pieceBit}
 use Rattle.line.specs.Reader.{Sent, runOn, shiftIn, atCheck, inGroup, inLost, hear, readLine}
 use Rattle.state.specs.Frame.{isForward, dataWords, mineOf, owedBy, toCome, collectSound, replySound, phaseSound}
 use Rattle.state.specs.Power.{powerUp, badControl, powerUpBad}
-use Rattle.state.specs.Queue.{noPlace, newPlace, waiting, wordsOf, moved, freed, firstUnread, claimed, returned}
+use Rattle.state.specs.Queue.{noPlace, newPlace, waiting, wordsOf, moved, freed, firstUnread, claimed, returned, placesOf, placesIn, lacks}
 use Rattle.state.specs.Rings.{written, ringAfter}
 use Rattle.state.specs.Sending.{owing, stored, done}
 use Rattle.place_rules.specs.Places.{roleSound, slotSound, slotsBelow}
-use Rattle.line_rules.specs.Line.{pieceSound, earSound, marksSound}
+use Rattle.line_rules.specs.Line.{pieceSound, earSound, marksSound, endSound}
 use Rattle.frame_rules.specs.Frames.{otpSound, isUnmarked}
 use Rattle.next.specs.Next.{choose, bitSent, isStarve, isStart}
-use Rattle.sender.specs.Sender.{wordSent, queueSent, senderAfter, advanced, finished, sentBy, tickSender, placeSent}
+use Rattle.sender.specs.Sender.{wordSent, queueSent, senderAfter, advanced, finished, sentBy, tickSender, placeSent, commandSent}
 use Rattle.reader.specs.Reader.{wordRead, errorRead, endRead, wordTaken, atEnd, ended, takenBy, tickReader, began}
 use Rattle.forwards.specs.Forward.{asksStore, guard, mineAfter, enqueues, clears, forwarded, forwardWord, forwardBegun, faulted}
 use Rattle.host.specs.Frames.{opened, dataWord, plannedIn, planned}
@@ -68,7 +68,7 @@ opening = frame (0xB007 ∷ 0x8000 ∷ [])
 
 -- The run meets the premises; at its end all is sent.
 unfoldable pub meets : List Event → Bool
-unfolding ticks frame opening val odd bit highFirst pick shift crcBit crcBits crcWord crcFrom crcOf write registerWrite rows byNumber decodeOurs raised blocking powerUpControl writeStatus writeMasked writeOf checkBit wordBit pieceBit runOn shiftIn atCheck inGroup inLost hear mineOf owedBy toCome collectSound replySound phaseSound powerUp noPlace newPlace waiting wordsOf moved freed firstUnread claimed returned written ringAfter stored done roleSound slotSound slotsBelow pieceSound earSound marksSound isUnmarked choose bitSent wordSent queueSent senderAfter advanced finished sentBy tickSender wordRead errorRead endRead wordTaken atEnd ended takenBy tickReader asksStore guard mineAfter enqueues clears forwarded forwardWord forwardBegun opened isQuiet isTransmitClear isReceiveClear isRefused withWrite registerWord dataWord wrongCrc forwardClosed crcDue plannedIn planned releasedIn clearedAway received settled concluded performed powered blockedIn same markAfter watched starvedFlags flagsSent phaseAfter controlTicked tickEnds tickHears ticked clocked reacted turned turn step planOf came accepts collects joined settle logged logBy listed acceptedIn isPower typed fair premises faults outOf next endOf lineBit soutOf powerOn allSent table resetRegs cleared powerUpFlags writeTxfflvl registersClosed faulted tickNote elapsed modeAt flagsAt controlAt placeSent writeEnds began
+unfolding ticks frame opening val odd bit highFirst pick shift crcBit crcBits crcWord crcFrom crcOf write registerWrite rows byNumber decodeOurs raised blocking powerUpControl writeStatus writeMasked writeOf checkBit wordBit pieceBit runOn shiftIn atCheck inGroup inLost hear mineOf owedBy toCome collectSound replySound phaseSound powerUp noPlace newPlace waiting wordsOf moved freed firstUnread claimed returned written ringAfter stored done roleSound slotSound slotsBelow endSound pieceSound earSound marksSound isUnmarked choose bitSent wordSent queueSent senderAfter advanced finished sentBy tickSender wordRead errorRead endRead wordTaken atEnd ended takenBy tickReader asksStore guard mineAfter enqueues clears forwarded forwardWord forwardBegun opened isQuiet isTransmitClear isReceiveClear isRefused withWrite registerWord dataWord wrongCrc forwardClosed crcDue plannedIn planned releasedIn clearedAway received settled concluded performed powered blockedIn same markAfter watched starvedFlags flagsSent phaseAfter controlTicked tickEnds tickHears ticked clocked reacted turned turn step planOf came accepts collects joined settle logged logBy listed acceptedIn isPower typed fair premises faults outOf next endOf lineBit soutOf powerOn allSent table resetRegs cleared powerUpFlags writeTxfflvl registersClosed faulted tickNote elapsed modeAt flagsAt controlAt placeSent commandSent writeEnds began placesOf placesIn lacks
 meets es = premises ours from es
 
 unfoldable sends-all : List Event → Bool

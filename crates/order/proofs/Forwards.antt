@@ -8,10 +8,12 @@ use lib.Dec.{ltb, leb}
 use borrow.Author.Tests.{leb-false, lt-ltb}
 use lib.ListN.{length, take, length-append}
 use lib.Seq.{take-all, take-append-seam}
+use Rattle.state.specs.declared.Queue.{Queue}
+use Rattle.queue.proofs.Laws.{has-places}
 use Rattle.base.specs.Pick.{pick-keeps, and-l}
 use Rattle.command.specs.declared.Command.the-variants.{Forward}
 use Rattle.state.specs.Rings.{ringAfter}
-use Rattle.state.specs.Queue.{newPlace}
+use Rattle.state.specs.Queue.{newPlace, placesOf, inUse}
 use Rattle.state.specs.Sending.{stored}
 use Rattle.state.specs.declared.Deed.the-variants.{Leave, Enqueue, TakeBack}
 use Rattle.state.specs.declared.Note.the-variants.{Done}
@@ -29,18 +31,18 @@ use Rattle.order.proofs.Account.{counted, concat, lengths, concat-snoc,
 use Rattle.order.proofs.Sending.{lessBy, moreBy}
 use Rattle.order.proofs.Frames.{Shut, Pending, Released, Open, InFrame, Kept, Goes}
 
--- Without note 8 or 9 the guard granted the wish: there was room in TX, and a place.
-module _ (P : Granted → Type 0) (count used : ℕ) (st : Store) (release : Bool) (p : Place) where
+-- Without note 8 or 9 the guard granted the wish: there was room in TX, and as many places as it needs.
+module _ (P : Granted → Type 0) (count : ℕ) (q : Queue) (st : Store) (release : Bool) (p : Place) where
   pub guard-grants : (blocked : Bool) → blocked ≡ false
-      → ((asksStore st ≡ true → count < 512) → release ≡ true → used < 8 → P (granted st (Enqueue p) Done))
+      → ((asksStore st ≡ true → count < 512) → release ≡ true → inUse q + placesOf p ≤ 8 → P (granted st (Enqueue p) Done))
       → ((asksStore st ≡ true → count < 512) → release ≡ false → P (granted st Leave Done))
-      → faults (guard blocked count used (wish st release p) .note) ≡ false → P (guard blocked count used (wish st release p))
+      → faults (guard blocked count q (wish st release p) .note) ≡ false → P (guard blocked count q (wish st release p))
   unfolding guard faults
   guard-grants blocked b enqueue leave =
       pick-keeps Q _ _ _ (λ t k. never blocked (and-l blocked (asksStore st || release) t) b)
       (λ t. pick-keeps Q _ _ _ (λ u k. never true refl k)
       (λ u. pick-keeps Q _ _ _
-      (λ r. pick-keeps Q _ _ _ (λ v k. never true refl k) (λ v k. enqueue (room u) r (leb-false 8 used v))) (λ r k. leave (room u) r)))
+      (λ r. pick-keeps Q _ _ _ (λ v k. never true refl k) (λ v k. enqueue (room u) r (has-places q p v))) (λ r k. leave (room u) r)))
     where
       Q : Granted → Type 0
       Q r = faults (r .note) ≡ false → P r
@@ -110,7 +112,7 @@ module _ (s : Sending) (g : Log) (S K : List ℕ) where
         ends = λ e. refl;
       }
 
-  pub over-queued : (crc : Bool) (k got mine ends : ℕ) (reads : Bool) → Pending crc k got mine g S K → k ≤ got → s .queue .used < 8
+  pub over-queued : (crc : Bool) (k got mine ends : ℕ) (reads : Bool) → Pending crc k got mine g S K → k ≤ got → inUse (s .queue) + placesOf (newPlace k ends reads) ≤ 8
       → Goes s g S K Idle Keep (Enqueue (newPlace k ends reads)) true
   unfolding came accepts lessBy moreBy collects Kept newPlace stored
   over-queued crc k got mine ends reads h l u =
@@ -150,7 +152,7 @@ module _ (s : Sending) (g : Log) (S K : List ℕ) where
 
   module _ (crc : Bool) (k ends : ℕ) (reads : Bool) (sum : ℕ) (blocked : Bool) (b : blocked ≡ false) where
     -- The command word: a place of ENDs alone is queued, or nothing yet.
-    pub begun-queued : Shut g S K → s .queue .used < 8 → crc ≡ false
+    pub begun-queued : Shut g S K → inUse (s .queue) + placesOf (newPlace k ends reads) ≤ 8 → crc ≡ false
         → Goes s g S K (Collecting (Forward crc k ends reads) 0 sum 0 true blocked) Keep (Enqueue (newPlace k ends reads)) false
     unfolding came accepts lessBy moreBy collects Kept InFrame Open settle newPlace stored
     begun-queued h u c =
@@ -194,7 +196,7 @@ module _ (s : Sending) (g : Log) (S K : List ℕ) where
 
     module _ (got w : ℕ) (small : w < 65536) (room : s .tx .count < 512) (due : got < k) where
       -- A data word: it releases, or not yet, or its forward was released before.
-      pub word-queued : (mine : ℕ) → Pending crc k got mine g S K → s .queue .used < 8 → crc ≡ false
+      pub word-queued : (mine : ℕ) → Pending crc k got mine g S K → inUse (s .queue) + placesOf (newPlace k ends reads) ≤ 8 → crc ≡ false
           → Goes s g S K (Collecting (Forward crc k ends reads) (got + 1) sum 0 true blocked) (Put w) (Enqueue (newPlace k ends reads)) false
       unfolding came accepts lessBy moreBy collects Kept InFrame Open settle newPlace stored
       word-queued mine h u c =

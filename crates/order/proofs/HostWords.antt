@@ -6,6 +6,7 @@ use Prim.Native.Nat.{ℕ, _+_, _<_}
 use native.Mathlib.Omega.{arith}
 use lib.ListN.{length-append}
 use borrow.Author.Tests.{ltb-true}
+use Rattle.state.specs.declared.Queue.{Queue}
 use Rattle.base.specs.Pick.{pick, pick-keeps, and-l}
 use Rattle.command.specs.Layouts.{Layout}
 use Rattle.command.specs.declared.Command.{Command}
@@ -47,12 +48,12 @@ unblocked true h = h
 unblocked false h = refl
 
 -- Notes 5 and 8 drop the word and leave the frame blocked; else it is stored, and the frame was not blocked.
-guarded : (P : Granted → Type 0) (blocked : Bool) (count used : ℕ) (w : Wish)
+guarded : (P : Granted → Type 0) (blocked : Bool) (count : ℕ) (q : Queue) (w : Wish)
     → ((d : Deed) (n : Note) → (clears d || blocked) ≡ true → P (granted Keep d n))
     → ((d : Deed) (n : Note) → (blocked && (asksStore (w .store) || w .release)) ≡ false → P (granted (w .store) d n))
-    → P (guard blocked count used w)
+    → P (guard blocked count q w)
 unfolding guard clears
-guarded P blocked count used w drops stores =
+guarded P blocked count q w drops stores =
     pick-keeps P _ _ _ (λ t. drops _ _ (and-l blocked _ t))
     (λ t. pick-keeps P _ _ _ (λ u. drops _ _ refl)
     (λ u. pick-keeps P _ _ _ (λ v. pick-keeps P _ _ _ (λ x. stores _ _ t) (λ x. stores _ _ t)) (λ v. stores _ _ t)))

@@ -9,10 +9,12 @@ use native.Mathlib.Numerals.{add-one}
 use native.Mathlib.Omega.{arith}
 use borrow.Author.Tests.{ltb-true, ltb-false, leb-true, eqb-true}
 use lib.ListN.{length, take, set, length-set}
+use lib.Dec.{leb}
+use Rattle.queue.proofs.Laws.{busy-begun, speaking-begun, has-record}
 use Rattle.base.specs.Pick.{pick-keeps, and-r, and-l}
 use Rattle.line.specs.Format.{pieceLength}
 use Rattle.state.specs.Rings.{oldest, written, ringAfter}
-use Rattle.state.specs.Queue.{placeAt, begunOne, waiting, underWay, emptiedQueue}
+use Rattle.state.specs.Queue.{placeAt, begunOne, waiting, underWay, emptiedQueue, placesOf, inUse}
 use Rattle.state.specs.Sending.{owing, stored, done, idle}
 use Rattle.state.specs.declared.Deed.{Deed}
 use Rattle.state.specs.declared.Deed.the-variants.{Leave, Enqueue, TakeBack, ClearAll, ResetAll}
@@ -66,7 +68,7 @@ Storable s (Put w) = (w < 65536) × (s .tx .count < 512)
 
 abbrev pub Feasible : Sending → Deed → Type 0
 Feasible s Leave = Unit {0}
-Feasible s (Enqueue p) = s .queue .used < 8
+Feasible s (Enqueue p) = inUse (s .queue) + placesOf p ≤ 8
 Feasible s (TakeBack n) = n ≤ s .tx .count
 Feasible s ClearAll = AllSent s × (s .tx .count ≡ 0)
 Feasible s ResetAll = AllSent s × (s .tx .count ≡ 0)
@@ -111,11 +113,12 @@ module _ (s : Sending) (cells : List ℕ) (bits : List Bool) (S K : List ℕ) (i
   unfolding done lessBy moreBy
   holds-done Leave h = i
   holds-done (Enqueue p) h =
+      let u : s .queue .used < 8 = has-record (s .queue) p (i .queue .eight) h in
       record {
-        exact = rw (waiting-push (s .queue) p (i .queue) h, counts-snoc) (exact-queue (s .sender) (inTx s cells) _ _ bits S K (i .exact));
+        exact = rw (waiting-push (s .queue) p (i .queue) u, counts-snoc) (exact-queue (s .sender) (inTx s cells) _ _ bits S K (i .exact));
         head = i .head;
         cells-are = i .cells-are;
-        queue = queue-push (s .queue) p (i .queue) h;
+        queue = queue-push (s .queue) p (i .queue) u;
       }
   holds-done (TakeBack n) h =
       let l : length (inTx s cells) ≡ s .tx .count = length-view 512 cells (s .tx .head) (s .tx .count) in
@@ -151,14 +154,15 @@ leaves-sent q left w k =
     pick-keeps (λ (r : Queue). Leaves q r) _ _ _ (λ t. leaves-set q (q .begun - 1) _ k (omega (arith, ltb-true 0 (q .begun) t)))
     (λ t. leaves-all q k)
 
--- The place of the command that is sent.
+-- The places of the command that is sent, or whose words are.
 pub leaves-finished : (s : Sending) → QueueOk (s .queue) → Leaves (s .queue) (finished s .queue)
 unfolding finished
 leaves-finished s k =
     pick-keeps (λ (r : Returned). Leaves (s .queue) (r .queue)) _ _ _
-    (λ t. leaves-returned (s .queue) (s .queue .begun - 1) _ k
-    (omega (arith, ltb-true 0 (s .queue .begun) (and-l _ _ (and-r (idle (s .sender)) (underWay (s .queue)) t)))))
-    (λ t. leaves-all (s .queue) k)
+    (λ t. leaves-returned (s .queue) (s .queue .begun - 1) _ k (omega (arith, busy-begun (s .queue) (and-r (idle (s .sender)) _ t))))
+    (λ t. pick-keeps (λ (r : Returned). Leaves (s .queue) (r .queue)) _ _ _
+    (λ u. leaves-returned (s .queue) (s .queue .begun - 1) _ k (omega (arith, speaking-begun (s .queue) (and-r (leb 18 (s .sender .gone)) _ u))))
+    (λ u. leaves-all (s .queue) k))
 
 module _ (s : Sending) (cells : List ℕ) (bits : List Bool) (S K : List ℕ) (i : Holds s cells bits S K) where
   -- What a tick of the kind n leaves.

@@ -129,4 +129,5 @@ leaves-free q i s h =
 pub leaves-returned : (q : Queue) (i : ℕ) (p : Place) → QueueOk q → i < q .begun → Leaves q (returned q i p .queue)
 unfolding returned
 leaves-returned q i p s h =
-    pick-keeps (λ (r : Returned). Leaves q (r .queue)) _ _ _ (λ t. leaves-free q i s h) (λ t. leaves-set q i p s h)
+    pick-keeps (λ (r : Returned). Leaves q (r .queue)) _ _ _
+    (λ t. pick-keeps (Leaves q) _ _ _ (λ e. leaves-set q i _ s h) (λ e. leaves-free q i s h)) (λ t. leaves-set q i p s h)

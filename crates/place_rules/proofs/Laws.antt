@@ -1,39 +1,18 @@
 -- Laws of the definitions, in the form in which the functions' proofs ask them. Assumes nothing.
 use mathlib.Core.Path.{_≡_, refl, sym, _∙_}
 use mathlib.Core.Bool.{Bool, true, _&&_}
-use mathlib.Core.List.{List, [], _∷_}
+use mathlib.Core.List.{[], _∷_}
 use Prim.Native.Nat.{ℕ, zero, suc, _+_, _*_, _-_, _≤_, _<_}
-use native.Mathlib.Numerals.{add-one}
 use native.Mathlib.Omega.{arith}
 use borrow.Author.Tests.{lt-leb, le-leb}
-use lib.ListN.{length, take, drop, drop-of-length-le}
-use lib.Seq.{drop-cons, take-nil}
+use lib.ListN.{length}
 use Rattle.base.specs.Pick.{pick-true, pick-false}
 use Rattle.base.specs.Truth.{and-again, and-end}
 use Rattle.state.specs.declared.Place.{Place}
 use Rattle.state.specs.declared.Queue.{Queue}
-use Rattle.state.specs.Queue.{noPlace, placeAt, waiting, wordsOf}
+use Rattle.state.specs.Queue.{placeAt, waiting, wordsOf}
+use Rattle.queue.proofs.Laws.{rest, rest-one, rest-none, rest-past}
 use Rattle.place_rules.specs.Places.{placeSound, roleSound, slotSound, slotsBelow, placesSound}
-
--- the places from i on, below used
-abbrev pub rest : Queue → ℕ → List Place
-rest q i = take (q .used - i) (drop i (q .places))
-
-taken-one : (n : ℕ) (p : Place) (ps : List Place) → 0 < n → take n (p ∷ ps) ≡ p ∷ take (n - 1) ps
-taken-one zero p ps h = absurd (omega arith)
-taken-one (suc n) p ps h = let e : suc n - 1 ≡ n = omega arith in rw e
-
-rest-one : (q : Queue) (i : ℕ) → i < length (q .places) → i < q .used → rest q i ≡ placeAt q i ∷ rest q (i + 1)
-rest-one q i l h =
-    let e : q .used - i - 1 ≡ q .used - (i + 1) = omega arith in
-    rw (drop-cons (q .places) i noPlace l)
-    (taken-one (q .used - i) (placeAt q i) (drop (suc i) (q .places)) (omega arith) ∙ rw (e, add-one))
-
-rest-none : (q : Queue) (i : ℕ) → q .used ≤ i → rest q i ≡ []
-rest-none q i h = let z : q .used - i ≡ 0 = omega arith in rw z
-
-rest-past : (q : Queue) (i : ℕ) → length (q .places) ≤ i → rest q i ≡ []
-rest-past q i h = rw (drop-of-length-le (q .places) h, take-nil)
 
 -- the sum so far, with that of the places still to come, is that of all that wait
 pub record Counted (q : Queue) (words i : ℕ) : Type 0 where

@@ -5,7 +5,7 @@ use lib.Dec.{ltb, leb, eqb}
 use Rattle.base.specs.Pick.{pick}
 use Rattle.crc16.specs.Crc.{start}
 use Rattle.command.specs.Layout.{mostWords, mostEnds}
-use Rattle.state.specs.Queue.{places, placeAt, isDone}
+use Rattle.state.specs.Queue.{places, placeAt, inUse, isDone}
 use Rattle.state.specs.declared.Place.{Place}
 use Rattle.state.specs.declared.Queue.{Queue}
 
@@ -22,11 +22,13 @@ isFresh p =
 abbrev pub waits : Place → Bool
 waits p = ltb 0 (p .words + p .ends) && isFresh p
 
--- "it is freed when sent and read back, or when sent if it has no words": an older place that has begun is sent and awaits its reading
+-- "it is freed when sent and read back, or when sent if it has no words": an older command that has begun is sent and its words' place awaits its
+-- reading; "the END place is freed when sent" (02 item 3)
 abbrev pub awaits : Place → Bool
-awaits p = p .sent && not (p .read) && ltb 0 (p .words)
+awaits p = p .sent && not (p .read) && ltb 0 (p .words) && eqb (p .ends) 0
 
--- place i, in use, by where it stands: waiting, behind the youngest that has begun, or that one
+-- command i by where it stands: waiting, behind the youngest that has begun, or that one. ENDs whose words' place is freed can only be that one:
+-- "An END place that belongs to a words place can stand alone only while it is under way" (02 item 3)
 unfoldable pub roleSound : ℕ → ℕ → Place → Bool
 roleSound begun i p = pick (leb begun i) (waits p) (pick (ltb (i + 1) begun) (awaits p) (not (isDone p)))
 
@@ -43,4 +45,4 @@ abbrev pub placesSound : Queue → Bool
 placesSound q = slotsBelow q places
 
 abbrev pub queueSound : Queue → Bool
-queueSound q = leb (q .begun) (q .used) && leb (q .used) places && placesSound q
+queueSound q = leb (q .begun) (q .used) && leb (q .used) places && leb (inUse q) places && placesSound q

@@ -30,7 +30,7 @@ fn waits(place: Place) -> bool
 fn awaits(place: Place) -> bool
     ensures { λ r. ⌜ r ≡ awaitsOf place ⌝ }
 {
-    place.sent & !place.read & (0 < place.words)
+    place.sent & !place.read & (0 < place.words) & (place.ends == 0)
 }
 
 fn is_done(place: Place) -> bool
@@ -92,5 +92,6 @@ pub fn words_waiting(queue: Queue) -> u32
 pub fn queue_sound(queue: Queue) -> bool
     ensures { λ r. ⌜ r ≡ queueSound queue ⌝ }
 {
-    (queue.begun <= queue.used) & (queue.used <= 8) & places_sound(queue)
+    let room = queue::in_use(queue) <= 8;
+    (queue.begun <= queue.used) & (queue.used <= 8) & room & places_sound(queue)
 }

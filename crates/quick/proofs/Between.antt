@@ -6,7 +6,7 @@ use Prim.Native.Nat.{ℕ, _+_, _-_, _≤_, _<_}
 use native.Mathlib.Omega.{arith}
 use lib.Dec.{ltb, leb}
 use borrow.Author.Tests.{ltb-true, leb-true, eqb-true, lt-leb, ltb-false}
-use Rattle.base.specs.Pick.{pick, pick-lt, pick-not-lt, pick-false, pick-keeps, and-l, and-r}
+use Rattle.base.specs.Pick.{pick, pick-lt, pick-not-lt, pick-keeps, and-l, and-r}
 use Rattle.base.specs.Truth.{denied, allowed, chosen-by, chosen, and-first, and-none}
 use Rattle.command.specs.Layouts.{ours}
 use Rattle.line.specs.Format.{pieceLength}
@@ -15,7 +15,7 @@ use Rattle.line.specs.declared.Found.{Found}
 use Rattle.line.specs.declared.Found.the-variants.{Nothing, Start, Word as WordFound, End, CheckError, Over}
 use Rattle.line.specs.declared.Heard.{Heard}
 use Rattle.registers.specs.declared.Control.{Control}
-use Rattle.state.specs.Queue.{placeAt, underWay, returned}
+use Rattle.state.specs.Queue.{underWay}
 use Rattle.state.specs.Rings.{written}
 use Rattle.state.specs.Sending.{idle}
 use Rattle.state.specs.declared.Bridge.{Bridge}
@@ -28,10 +28,12 @@ use Rattle.state.specs.declared.Sender.{Sender}
 use Rattle.state.specs.declared.Sending.{Sending}
 use Rattle.state.specs.declared.Store.the-variants.{Keep}
 use Rattle.next.specs.Next.{mayStart, choose, bitSent, isStarve, isStart}
-use Rattle.sender.specs.Sender.{senderAfter, advanced, placeSent, finished, sentBy, tickSender}
+use Rattle.sender.specs.Sender.{senderAfter, advanced, finished, sentBy, tickSender}
 use Rattle.next.specs.declared.Next.{Next}
 use Rattle.next.specs.declared.Next.the-variants.{GoOn, Stay}
 use Rattle.sender.specs.declared.Sent.{Sent}
+use Rattle.sender.proofs.Laws.{to-kept}
+use Rattle.rules.proofs.Facts.{piece-most}
 use Rattle.reader.specs.Reader.{withEar, takenBy, tickReader}
 use Rattle.plan.specs.Plan.{noAnswer, settled}
 use Rattle.ticks.specs.Ticks.{watched, starvedFlags, flagsSent, phaseAfter, controlTicked, tickNote, tickEnds, tickHears, ticked}
@@ -86,20 +88,21 @@ abbrev unsent : Queue → Returned
 unsent q = record { queue = q; differs = false }
 
 module _ (s : Sending) (may : Bool) (w : ℕ) where
+  unfinished : (n : Next) → (idle (senderAfter n s w) && underWay (s .queue)) ≡ false → leb 18 (senderAfter n s w .gone) ≡ false
+      → finished (moved n s w) ≡ unsent (s .queue)
+  unfinished n h k = sym (to-kept (moved n s w) _ _ refl refl _ refl h (rw k refl))
+
   not-over : inPiece (s .sender) ≡ true → finished (moved GoOn s w) ≡ unsent (s .queue)
-  unfolding finished senderAfter
+  unfolding senderAfter
   not-over h =
       let l : s .sender .gone + 1 < pieceLength (s .sender .piece) = ltb-true _ _ h in
       let z : leb (pieceLength (s .sender .piece)) (s .sender .gone + 1) ≡ false = lt-leb _ _ l in
-      sym (pick-false _ _ _ _ (rw z) refl)
+      unfinished GoOn (rw z) (lt-leb 18 (s .sender .gone + 1) (omega (arith, piece-most (s .sender .piece))))
 
   none-over : rests s may ≡ true → finished (moved Stay s w) ≡ unsent (s .queue)
-  unfolding finished
   none-over h =
       let u : underWay (s .queue) ≡ false = denied _ (idle (s .sender)) (allowed (ltb (s .queue .begun) (s .queue .used) && may) _ h) in
-      let z : (idle (senderAfter Stay s w) && underWay (s .queue)) ≡ false = and-none (idle (senderAfter Stay s w)) _ u in
-      let r : Returned = returned (s .queue) (s .queue .begun - 1) (placeSent (placeAt (s .queue) (s .queue .begun - 1))) in
-      sym (pick-false (idle (senderAfter Stay s w) && underWay (s .queue)) (unsent (s .queue)) r (unsent (s .queue)) z refl)
+      unfinished Stay (and-none (idle (senderAfter Stay s w)) _ u) (unfold senderAfter in refl)
 
   sent-on : inPiece (s .sender) ≡ true → tickSender s may w ≡ plain GoOn s w
   unfolding tickSender sentBy advanced

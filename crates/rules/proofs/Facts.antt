@@ -13,7 +13,8 @@ use Rattle.line.specs.Format.{pieceLength}
 use Rattle.line.specs.declared.Piece.{Piece}
 use Rattle.line.specs.declared.Piece.the-variants.{Pause, StartBit, WordPiece, EndPiece}
 use Rattle.registers.specs.Registers.{table, resetRegs, powerUpFlags, powerUpControl, blocking, regsSound}
-use Rattle.state.specs.Queue.{noPlace, placeAt, waiting, wordsOf, underWay, isDone}
+use Rattle.state.specs.Queue.{noPlace, placeAt, waiting, wordsOf, underWay, isDone, lastBegun, speaking, placesIn}
+use Rattle.queue.proofs.Laws.{busy-begun}
 use Rattle.state.specs.Sending.{idle}
 use Rattle.state.specs.Frame.{mineOf, toCome, phaseSound}
 use Rattle.state.specs.Facts.{RingFit, QueueFit, SendFit, HostFit}
@@ -27,7 +28,7 @@ use Rattle.state.specs.declared.Phase.{Phase}
 use Rattle.state.specs.declared.Bridge.{Bridge}
 use Rattle.rules.specs.Sound.{ringSound, lastLeft, ledger, sound}
 use Rattle.place_rules.specs.Places.{placeSound, isFresh, waits, awaits, roleSound, slotSound, slotsBelow, queueSound}
-use Rattle.line_rules.specs.Line.{pieceSound, lastBegun, senderSound, earSound, marksSound, readerSound}
+use Rattle.line_rules.specs.Line.{pieceSound, senderSound, earSound, marksSound, readerSound, endSound}
 use Rattle.frame_rules.specs.Frames.{otpSound, drdySound, controlSound, isUnmarked}
 use Rattle.rules.specs.Facts.{Standing, SenderFit, Balanced, Sound, allSome}
 
@@ -113,6 +114,7 @@ module _ (q : Queue) (h : queueSound q ≡ true) where
     older = λ i l. role-awaits (q .begun) i (placeAt q i) (role i (omega (arith, begun-used))) l;
     youngest = λ z. role-youngest (q .begun) (q .begun - 1) (lastBegun q) (role (q .begun - 1) (omega (arith, begun-used))) (omega arith);
     fresh = λ i b l. role-waits (q .begun) i (placeAt q i) (role i l) b;
+    eight = leb-true _ _ (search (and-l, and-r));
   }
 
 role-from : (q : Queue) (i : ℕ) → Standing q → i < q .used → roleSound (q .begun) i (placeAt q i) ≡ true
@@ -134,7 +136,7 @@ slot-from q i f s =
 
 pub queue-from : (q : Queue) → QueueFit q → Standing q → queueSound q ≡ true
 queue-from q f s =
-    and-both _ _ (and-both _ _ (le-leb _ _ (f .order)) (le-leb _ _ (f .most))) (slots-from q (λ i. slot-from q i f s) 8)
+    and-both _ _ (and-both _ _ (and-both _ _ (le-leb _ _ (f .order)) (le-leb _ _ (f .most))) (le-leb _ _ (s .eight))) (slots-from q (λ i. slot-from q i f s) 8)
 
 -- what waits has something to send
 some-first : (n : ℕ) (ps : List Place) → ((j : ℕ) → j < n → waits (getD ps j noPlace) ≡ true) → allSome (take n ps) ≡ true
@@ -151,10 +153,17 @@ some-waiting q s =
     (λ j l. rw (getD-drop (q .begun) (q .places) j noPlace) (s .fresh (q .begun + j) (omega arith) (omega arith)))
 
 pub sender-fit : (s : Sender) (q : Queue) → senderSound s q ≡ true → SenderFit s q
-sender-fit s q h = record { piece = and-l _ (not (idle s && underWay q)) h; rest = not-true _ (search (and-l, and-r)) }
+sender-fit s q h = record {
+  piece = and-l _ (not (idle s && underWay q)) (and-l _ (not (leb 18 (s .gone) && speaking q)) h);
+  rest = not-true _ (search (and-l, and-r));
+  over = not-true _ (search (and-l, and-r));
+}
 
 pub sender-from : (s : Sender) (q : Queue) → SenderFit s q → senderSound s q ≡ true
-sender-from s q f = let r : (idle s && underWay q) ≡ false = f .rest in and-both _ _ (f .piece) (rw r)
+sender-from s q f =
+    let r : (idle s && underWay q) ≡ false = f .rest in
+    let o : (leb 18 (s .gone) && speaking q) ≡ false = f .over in
+    and-both _ _ (and-both _ _ (f .piece) (rw r)) (rw o)
 
 -- the sender's counts fit: what is left is of the place under way
 module _ (s : Sender) (busy : Bool) (p : Place) where
@@ -191,9 +200,7 @@ module _ (s : Sender) (busy : Bool) (p : Place) where
 
 -- a place under way is one in use
 pub busy-used : (q : Queue) → QueueFit q → underWay q ≡ true → q .begun - 1 < q .used
-busy-used q f h =
-    let z : 0 < q .begun = ltb-true _ _ (and-l _ (not (lastBegun q .sent)) h) in
-    omega (arith, f .order)
+busy-used q f h = omega (arith, busy-begun q h, f .order)
 
 pub balanced : (s : Sending) (p : Phase) → ledger s p ≡ true → Balanced s p
 balanced s p h = record { sum = eqb-true _ _ (search (and-l, and-r)); last = leb-true _ _ (search (and-l, and-r)) }
@@ -284,9 +291,9 @@ pub host-fit : (b : Bridge) → sound b ≡ true → HostFit b
 host-fit b h = fit-of b (sound-facts b h)
 
 pub power-up-sound : sound powerUp ≡ true
-unfolding powerUp powerUpControl powerUpFlags resetRegs table noPlace pieceSound slotsBelow slotSound earSound marksSound blocking isUnmarked phaseSound mineOf toCome waiting wordsOf pick
+unfolding powerUp powerUpControl powerUpFlags resetRegs table noPlace endSound pieceSound slotsBelow slotSound earSound marksSound blocking isUnmarked phaseSound mineOf toCome waiting wordsOf placesIn pick
 power-up-sound = refl
 
 pub power-up-bad-sound : sound powerUpBad ≡ true
-unfolding powerUpBad badControl powerUpControl powerUpFlags resetRegs table noPlace pieceSound slotsBelow slotSound earSound marksSound blocking isUnmarked phaseSound mineOf toCome waiting wordsOf pick
+unfolding powerUpBad badControl powerUpControl powerUpFlags resetRegs table noPlace endSound pieceSound slotsBelow slotSound earSound marksSound blocking isUnmarked phaseSound mineOf toCome waiting wordsOf placesIn pick
 power-up-bad-sound = refl

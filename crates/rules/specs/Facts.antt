@@ -3,11 +3,12 @@ use mathlib.Core.Path.{_≡_}
 use mathlib.Core.Bool.{Bool, true, false, _&&_}
 use mathlib.Core.List.{List, [], _∷_}
 use Prim.Native.Nat.{ℕ, suc, _+_, _-_, _≤_, _<_}
-use lib.Dec.{ltb}
+use lib.Dec.{ltb, leb}
+use Rattle.line.specs.Format.{endLength}
 use Rattle.registers.specs.Registers.{regsSound, blocking}
 use Rattle.registers.specs.declared.Control.{Control}
 use Rattle.state.specs.Rings.{txSize, rxSize}
-use Rattle.state.specs.Queue.{placeAt, waiting, wordsOf, underWay, isDone}
+use Rattle.state.specs.Queue.{places, placeAt, inUse, lastBegun, speaking, underWay, waiting, wordsOf, isDone}
 use Rattle.state.specs.Frame.{mineOf, toCome, phaseSound}
 use Rattle.state.specs.Facts.{RingFit, QueueFit}
 use Rattle.state.specs.Sending.{idle}
@@ -18,19 +19,22 @@ use Rattle.state.specs.declared.Sending.{Sending}
 use Rattle.state.specs.declared.Phase.{Phase}
 use Rattle.state.specs.declared.Bridge.{Bridge}
 use Rattle.place_rules.specs.Places.{waits, awaits}
-use Rattle.line_rules.specs.Line.{pieceSound, lastBegun, earSound, marksSound}
+use Rattle.line_rules.specs.Line.{pieceSound, earSound, marksSound}
 use Rattle.frame_rules.specs.Frames.{otpSound, drdySound, isUnmarked}
 use Rattle.rules.specs.Sound.{lastLeft}
 
--- what each place in use is: behind the youngest that has begun sent and not yet read, that one not done, the others waiting
+-- the places in use are at most eight, and what each command's are: behind the youngest that has begun sent and not yet read, that one not done,
+-- the others waiting
 pub record Standing (q : Queue) : Type 0 where
   pub older : (i : ℕ) → suc i < q .begun → awaits (placeAt q i) ≡ true
   pub youngest : 0 < q .begun → isDone (lastBegun q) ≡ false
   pub fresh : (i : ℕ) → q .begun ≤ i → i < q .used → waits (placeAt q i) ≡ true
+  pub eight : inUse q ≤ places
 
 pub record SenderFit (s : Sender) (q : Queue) : Type 0 where
   pub piece : pieceSound (s .piece) s (underWay q) (lastBegun q) ≡ true
   pub rest : (idle s && underWay q) ≡ false
+  pub over : (leb endLength (s .gone) && speaking q) ≡ false
 
 -- the rules of registers, flags and frame; `count` words are in RX
 pub record ControlRules (c : Control) (count : ℕ) (p : Phase) : Type 0 where

@@ -4,12 +4,14 @@ use mathlib.Core.Bool.{Bool, true, false, _&&_}
 use mathlib.Core.List.{List, [], _∷_}
 use Prim.Native.Nat.{ℕ, zero, suc, _+_, _-_, _≤_, _<_}
 use native.Mathlib.Omega.{arith}
+use lib.Dec.{leb}
 use lib.ListN.{getD, set}
 use borrow.Author.Tests.{ltb-true}
-use Rattle.base.specs.Pick.{pick-told, pick-denied, pick-keeps, and-l, and-r}
+use Rattle.base.specs.Pick.{pick-told, pick-denied, pick-keeps, and-r}
 use Rattle.line.specs.declared.Piece.{Piece}
 use Rattle.state.specs.Facts.{QueueFit, SendFit}
-use Rattle.state.specs.Queue.{placeAt, withPlace, noPlace, underWay, returned}
+use Rattle.state.specs.Queue.{placeAt, withPlace, noPlace, speaking, underWay, returned}
+use Rattle.queue.proofs.Laws.{busy-begun, speaking-begun}
 use Rattle.state.specs.Sending.{idle}
 use Rattle.state.specs.Rings.{txSize, popped}
 use Rattle.state.specs.declared.Place.{Place}
@@ -20,7 +22,7 @@ use Rattle.state.specs.declared.Sender.{Sender}
 use Rattle.state.specs.declared.Sending.{Sending}
 use Rattle.next.specs.Room.{Room}
 use Rattle.next.specs.Next.{choose, bitSent, isStarve, isStart}
-use Rattle.sender.specs.Sender.{wordSent, queueSent, senderAfter, advanced, placeSent, finished, sentBy, tickSender}
+use Rattle.sender.specs.Sender.{wordSent, queueSent, senderAfter, advanced, placeSent, commandSent, finished, sentBy, tickSender}
 use Rattle.next.specs.declared.Next.{Next}
 use Rattle.next.specs.declared.Next.the-variants.{GoOn, LoadWord, Starve, LoadEnd, StartWords, StartEnds, Stay}
 use Rattle.next.proofs.Laws.{choose-room}
@@ -103,21 +105,29 @@ advanced-fit StartWords s w r f = record { order = omega (arith, r); most = f .q
 advanced-fit StartEnds s w r f = record { order = omega (arith, r); most = f .queue .most; words = f .queue .words; ends = f .queue .ends }
 advanced-fit Stay s w r f = f .queue
 
--- a place returned, by what the two tests answered
+-- a place returned, by what the tests answered
 module _ (s : Sending) (i u : Bool) (h : i ≡ idle (s .sender)) (k : u ≡ underWay (s .queue)) where
-  pub last-begun : (l : ℕ) → (i && u) ≡ true → l ≡ s .queue .begun - 1 → l < s .queue .begun
-  last-begun l t e =
-      let b : underWay (s .queue) ≡ true = sym k ∙ and-r i u t in
-      let z : 0 < s .queue .begun = ltb-true _ _ (and-l _ _ b) in omega arith
+  pub busy-last : (l : ℕ) → (i && u) ≡ true → l ≡ s .queue .begun - 1 → l < s .queue .begun
+  busy-last l t e = omega (arith, busy-begun (s .queue) (sym k ∙ and-r i u t))
 
-  pub to-returned : (l : ℕ) (p : Place) (x : Returned) → (i && u) ≡ true → l ≡ s .queue .begun - 1 → p ≡ placeSent (placeAt (s .queue) l)
+  pub to-ended : (l : ℕ) (o p : Place) (x : Returned) → (i && u) ≡ true → l ≡ s .queue .begun - 1 → o ≡ placeAt (s .queue) l → p ≡ commandSent o
       → x ≡ returned (s .queue) l p → x ≡ finished s
   unfolding finished
-  to-returned l p x t e f g = pick-told (i && u) _ _ _ _ (rw (h, k)) t (g ∙ rw (f, e))
+  to-ended l o p x t e f g j = pick-told (i && u) _ _ _ _ (rw (h, k)) t (j ∙ rw (g, f, e))
 
-  pub to-kept : (i && u) ≡ false → record { queue = s .queue; differs = false } ≡ finished s
-  unfolding finished
-  to-kept t = pick-denied (i && u) _ _ _ _ (rw (h, k)) t refl
+  module _ (v : Bool) (m : v ≡ speaking (s .queue)) (n : (i && u) ≡ false) where
+    pub speaking-last : (l : ℕ) (o : Bool) → (o && v) ≡ true → l ≡ s .queue .begun - 1 → l < s .queue .begun
+    speaking-last l o t e = omega (arith, speaking-begun (s .queue) (sym m ∙ and-r o v t))
+
+    pub to-spoken : (l : ℕ) (o p : Place) (x : Returned) → (leb 18 (s .sender .gone) && v) ≡ true → l ≡ s .queue .begun - 1
+        → o ≡ placeAt (s .queue) l → p ≡ placeSent o → x ≡ returned (s .queue) l p → x ≡ finished s
+    unfolding finished
+    to-spoken l o p x t e f g j =
+        pick-denied (i && u) _ _ _ _ (rw (h, k)) n (pick-told (leb 18 (s .sender .gone) && v) _ _ _ _ (rw m) t (j ∙ rw (g, f, e)))
+
+    pub to-kept : (leb 18 (s .sender .gone) && v) ≡ false → record { queue = s .queue; differs = false } ≡ finished s
+    unfolding finished
+    to-kept t = pick-denied (i && u) _ _ _ _ (rw (h, k)) n (pick-denied (leb 18 (s .sender .gone) && v) _ _ _ _ (rw m) t refl)
 
 -- a tick's parts: the choice, what it does, and the place returned
 module _ (s : Sending) (may : Bool) (w : ℕ) (n : Next) (h : n ≡ choose s may) where

@@ -4,9 +4,10 @@ use Prim.Native.Nat.{ℕ, _+_, _-_}
 use lib.Dec.{ltb, leb, eqb}
 use Rattle.base.specs.Pick.{pick}
 use Rattle.crc16.specs.Crc.{crcWord}
+use Rattle.line.specs.Format.{endLength}
 use Rattle.line.specs.declared.Piece.the-variants.{Pause, StartBit, WordPiece, EndPiece}
 use Rattle.state.specs.Rings.{txSize, popped}
-use Rattle.state.specs.Queue.{placeAt, withPlace, begunOne, underWay, returned}
+use Rattle.state.specs.Queue.{placeAt, withPlace, begunOne, lastBegun, speaking, underWay, returned}
 use Rattle.state.specs.Sending.{idle}
 use Rattle.state.specs.declared.Place.{Place}
 use Rattle.state.specs.declared.Queue.{Queue}
@@ -73,6 +74,7 @@ advanced StartWords s w = record { tx = s .tx; queue = begunOne (s .queue); send
 advanced StartEnds s w = record { tx = s .tx; queue = begunOne (s .queue); sender = senderAfter StartEnds s w }
 advanced Stay s w = record { tx = s .tx; queue = s .queue; sender = senderAfter Stay s w }
 
+-- the words' place
 unfoldable pub placeSent : Place → Place
 placeSent p = record {
   words = p .words;
@@ -86,12 +88,30 @@ placeSent p = record {
   «crc_read» = p .«crc_read»;
 }
 
--- A command with extra ENDs is sent with the last bit of the last of them (docs/DECISIONS.md): the sender is idle again, and its place is sent
+-- the whole command: its ENDs' place is freed
+unfoldable pub commandSent : Place → Place
+commandSent p = record {
+  words = p .words;
+  ends = 0;
+  store = p .store;
+  compare = p .compare;
+  damaged = p .damaged;
+  sent = true;
+  read = p .read;
+  «crc_sent» = p .«crc_sent»;
+  «crc_read» = p .«crc_read»;
+}
+
+-- "Each place is sent with its own last bit" (02 item 3, docs/DECISIONS.md): that of the ENDs with the last of all, when the sender is idle again;
+-- that of the words with the last 1 of their own END, of 18 bits
+abbrev pub wordsOver : Sending → Bool
+wordsOver s = leb endLength (s .sender .gone) && speaking (s .queue)
+
 unfoldable pub finished : Sending → Returned
 finished s =
     pick (idle (s .sender) && underWay (s .queue))
-    (returned (s .queue) (s .queue .begun - 1) (placeSent (placeAt (s .queue) (s .queue .begun - 1))))
-    (record { queue = s .queue; differs = false })
+    (returned (s .queue) (s .queue .begun - 1) (commandSent (lastBegun (s .queue))))
+    (pick (wordsOver s) (returned (s .queue) (s .queue .begun - 1) (placeSent (lastBegun (s .queue)))) (record { queue = s .queue; differs = false }))
 
 unfoldable pub sentBy : Next → Sending → ℕ → Sent
 sentBy n s w = record {

@@ -6,7 +6,7 @@ ghost use Rattle.base.specs.Pick.{pick};
 ghost use Rattle.state.specs.Facts.{QueueFit, SendFit};
 ghost use Rattle.state.specs.Queue.{begunOne};
 ghost use Rattle.next.specs.Room.{Room};
-ghost use Rattle.sender.specs.Sender.{isHead, wordSent, queueSent, senderAfter, advanced as advancedOf, placeSent, finished as finishedOf, tickSender};
+ghost use Rattle.sender.specs.Sender.{isHead, wordSent, queueSent, senderAfter, advanced as advancedOf, placeSent, commandSent, finished as finishedOf, tickSender};
 use line::Piece;
 use next::Next;
 use state::Place;
@@ -182,6 +182,7 @@ fn advanced(next: Next, sending: Sending, word: u16) -> Sending
     }
 }
 
+// The words' place.
 fn place_sent(place: Place) -> Place
     ensures { λ r. ⌜ r ≡ placeSent place ⌝ }
 {
@@ -190,17 +191,33 @@ fn place_sent(place: Place) -> Place
     p
 }
 
-// The place is sent with the sender's last bit.
+// The whole command: its ENDs' place is freed.
+fn command_sent(place: Place) -> Place
+    ensures { λ r. ⌜ r ≡ commandSent place ⌝ }
+{
+    let mut p = place;
+    p.ends = 0;
+    p.sent = true;
+    p
+}
+
+// Each place is sent with its own last bit: the ENDs' with the sender's last, the words' with the last 1 of their own END.
 fn finished(sending: Sending) -> Returned
     requires { ⌜ QueueFit (sending .queue) ⌝ }
     ensures { λ r. ⌜ r ≡ finishedOf sending ⌝ }
 {
     let queue = sending.queue;
+    let last = state::less_one(queue.begun);
     let idle = deeds::is_idle(sending.sender);
     let under_way = queue::is_under_way(queue);
     if idle & under_way {
-        let last = state::less_one(queue.begun);
-        let place = place_sent(queue.places[last as usize]);
+        let place = command_sent(queue::place_at(queue, last));
+        return queue::give_back(queue, last, place);
+    }
+    let over = 18 <= sending.sender.gone;
+    let speaking = queue::is_speaking(queue);
+    if over & speaking {
+        let place = place_sent(queue::place_at(queue, last));
         return queue::give_back(queue, last, place);
     }
     Returned {

@@ -1,10 +1,10 @@
 -- The record rules as facts, for the functions inside. What tests them is `sound`.
 use mathlib.Core.Path.{_≡_}
 use mathlib.Core.Bool.{true}
-use Prim.Native.Nat.{ℕ, _≤_, _<_}
+use Prim.Native.Nat.{ℕ, _+_, _≤_, _<_}
 use Rattle.command.specs.Layout.{mostWords, mostEnds}
 use Rattle.line.specs.Format.{endLength}
-use Rattle.state.specs.Queue.{places, placeAt}
+use Rattle.state.specs.Queue.{places, placeAt, placesOf, inUse}
 use Rattle.state.specs.Rings.{txSize, rxSize}
 use Rattle.state.specs.Frame.{mineOf, phaseSound}
 use Rattle.state.specs.declared.Ring.{Ring}
@@ -35,10 +35,10 @@ pub record HostFit (b : Bridge) : Type 0 where
   pub phase : phaseSound (b .frame .phase) ≡ true
   pub mine : mineOf (b .frame .phase) ≤ b .sending .tx .count
 
--- what a deed asks: a free place, or as many words as it takes back
+-- what a deed asks: as many free places as the command needs, or as many words as it takes back
 abbrev pub Doable : Sending → Deed → Type 0
 Doable s Leave = Unit {0}
-Doable s (Enqueue p) = s .queue .used < places
+Doable s (Enqueue p) = inUse (s .queue) + placesOf p ≤ places
 Doable s (TakeBack n) = n ≤ s .tx .count
 Doable s ClearAll = Unit {0}
 Doable s ResetAll = Unit {0}

@@ -1,4 +1,4 @@
--- The queue of eight places (01 The line, "The queue has eight places (ours)"). Assumes nothing.
+-- The queue of eight places (01 The line, "The queue has eight places (ours)"; 02 item 3). Assumes nothing.
 use mathlib.Core.Bool.{Bool, true, false, not, _&&_, _||_}
 use mathlib.Core.List.{List, [], _∷_}
 use Prim.Native.Nat.{ℕ, suc, _+_, _-_}
@@ -27,7 +27,7 @@ noPlace = record {
   «crc_read» = 0;
 }
 
--- a command as it is queued: nothing sent, nothing read
+-- a command as it is queued, with one place or two: nothing sent, nothing read
 unfoldable pub newPlace : ℕ → ℕ → Bool → Place
 newPlace words ends store = record {
   words = words;
@@ -56,7 +56,7 @@ begunOne q = record { places = q .places; used = q .used; begun = q .begun + 1 }
 abbrev pub emptiedQueue : Queue → Queue
 emptiedQueue q = record { places = q .places; used = 0; begun = 0 }
 
--- the places not yet begun, oldest first
+-- the commands not yet begun, oldest first
 unfoldable pub waiting : Queue → List Place
 waiting q = take (q .used - q .begun) (drop (q .begun) (q .places))
 
@@ -65,9 +65,36 @@ unfoldable pub wordsOf : List Place → ℕ
 wordsOf [] = 0
 wordsOf (p ∷ ps) = p .words + wordsOf ps
 
--- the place under way: begun, and not yet sent
+-- "Words and ENDs: two places; words only, ENDs only: one": a command with both has one for its words and one for its extra ENDs. 02 item 3
+unfoldable pub placesOf : Place → ℕ
+placesOf p = pick (ltb 0 (p .words) && ltb 0 (p .ends)) 2 1
+
+unfoldable pub placesIn : List Place → ℕ
+placesIn [] = 0
+placesIn (p ∷ ps) = placesOf p + placesIn ps
+
+-- every place not freed yet
+abbrev pub inUse : Queue → ℕ
+inUse q = placesIn (take (q .used) (q .places))
+
+-- "Note 9 is given when fewer places are free than the command needs": both places of a command with words and ENDs, or none. 02 item 3
+unfoldable pub lacks : Queue → Place → Bool
+lacks q p = ltb (places - inUse q) (placesOf p)
+
+-- the youngest command that has begun
+abbrev pub lastBegun : Queue → Place
+lastBegun q = placeAt q (q .begun - 1)
+
+-- it has words, and the last 1 of their own END has not gone out
+abbrev pub speaks : Place → Bool
+speaks p = ltb 0 (p .words) && not (p .sent)
+
+abbrev pub speaking : Queue → Bool
+speaking q = ltb 0 (q .begun) && speaks (lastBegun q)
+
+-- "The two count as one command under way": begun, and its words or its ENDs not yet sent. 02 item 3
 abbrev pub underWay : Queue → Bool
-underWay q = ltb 0 (q .begun) && not (placeAt q (q .begun - 1) .sent)
+underWay q = ltb 0 (q .begun) && (not (lastBegun q .sent) || ltb 0 (lastBegun q .ends))
 
 -- Freed: the younger places move up by one.
 unfoldable pub moved : List Place → ℕ → ℕ → Place
@@ -105,7 +132,11 @@ isDone p = p .sent && (p .read || eqb (p .words) 0)
 abbrev pub differs : Place → Bool
 differs p = p .compare && not (p .damaged) && not (eqb (p .«crc_sent») (p .«crc_read»))
 
--- a place with new marks: put back, or freed where it is done; and whether its CRCs differ then
+-- A place with new marks: put back, or freed where it is done; and whether its CRCs differ then. ENDs that still go out keep their own place, as
+-- ENDs alone do: "the words place can be freed .. while the extra ENDs still go out". 02 item 3
+abbrev pub freedOf : Queue → ℕ → Place → Queue
+freedOf q i p = pick (ltb 0 (p .ends)) (withPlace q i (newPlace 0 (p .ends) (p .store))) (freed q i)
+
 unfoldable pub returned : Queue → ℕ → Place → Returned
 returned q i p =
-    pick (isDone p) (record { queue = freed q i; differs = differs p }) (record { queue = withPlace q i p; differs = false })
+    pick (isDone p) (record { queue = freedOf q i p; differs = differs p }) (record { queue = withPlace q i p; differs = false })

@@ -21,8 +21,8 @@ pub struct Ring {
     pub count: u16,
 }
 
-// A queued command. `store`: what is read back goes to RX. `compare`: its first sent word asks for the CRCs to be compared. `damaged`: a
-// check error came while it was read back.
+// A queued command: its words have a place, and its extra ENDs have one (02 item 3). What has been freed of it is 0 here. `store`: what is read
+// back goes to RX. `compare`: its first sent word asks for the CRCs to be compared. `damaged`: a check error came while it was read back.
 pub struct Place {
     pub words: u16,
     pub ends: u16,
@@ -35,7 +35,7 @@ pub struct Place {
     pub crc_read: u16,
 }
 
-// The places in use, oldest first; the first `begun` of them have begun sending.
+// The commands with places in use, oldest first; the first `begun` of them have begun sending.
 pub struct Queue {
     pub places: [Place; 8],
     pub used: u16,

@@ -3,7 +3,7 @@ use mathlib.Core.Bool.{Bool, true, false, _&&_}
 use Prim.Native.Nat.{ℕ, _+_}
 use lib.Dec.{ltb, leb, eqb}
 use Rattle.base.specs.Pick.{pick}
-use Rattle.state.specs.Queue.{places}
+use Rattle.state.specs.Queue.{places, inUse}
 use Rattle.state.specs.Rings.{txSize, rxSize}
 use Rattle.state.specs.declared.Bridge.{Bridge}
 use Rattle.state.specs.declared.Phase.{Phase}
@@ -76,7 +76,7 @@ isReady b = mayStart (b .control) && isIdle (b .frame .phase)
 
 -- "two places free and room in TX for its words and the VSYNC"
 unfoldable pub hasRoom : Bridge → ℕ → Bool
-hasRoom b n = leb (b .sending .queue .used + 2) places && leb (b .sending .tx .count + n + 1) txSize
+hasRoom b n = leb (inUse (b .sending .queue) + 2) places && leb (b .sending .tx .count + n + 1) txSize
 
 -- 34, 35
 unfoldable pub roomVerdict : Bridge → ℕ → Verdict

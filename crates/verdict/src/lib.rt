@@ -110,7 +110,7 @@ fn has_room(bridge: Bridge, words: usize) -> bool
     requires { ⌜ words ≤ 30 ⌝ }
     ensures { λ r. ⌜ r ≡ hasRoom bridge words ⌝ }
 {
-    let used = bridge.sending.queue.used as usize;
+    let used = queue::in_use(bridge.sending.queue) as usize;
     let count = bridge.sending.tx.count as usize;
     let two_places = used + 2 <= 8;
     let fits = count + words + 1 <= 512;

@@ -16,6 +16,7 @@ guard-spec =
     (λ c κs. search needs)
     (λ c. search (needs, picks))
     (λ c κs. search needs)
+    (λ c κs. search needs)
     (λ c. search (needs, picks))
     (λ c κs. search needs)
     (λ c. search (needs, picks))

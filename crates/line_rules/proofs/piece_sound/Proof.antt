@@ -9,5 +9,5 @@ unfolding pieceSound
 piece-sound-spec =
     tie.close
     (tie.spec (λ c. search needs) (λ c. search needs) (λ c. search needs) (λ c. search needs) (λ c. search needs) (λ c. search needs)
-    (λ c. search needs) (λ c. search needs) (λ c. search needs) (λ c. search needs) (λ c κs. search needs) (λ c. search (needs, to-piece))
+    (λ c. search needs) (λ c. search needs) (λ c. search needs) (λ c. search needs) (λ c κs. search needs) (λ c κs. search needs) (λ c. search (needs, to-piece))
     (λ c. search (needs, to-piece)) (λ c. search (needs, to-piece)) (λ c. search (needs, end-told)))
