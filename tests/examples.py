@@ -20,6 +20,7 @@ NO_EVENT = bytes([9, 0, 0])
 sys.dont_write_bytecode = True
 sys.path.insert(0, str(TOP / "tools"))
 import explain  # noqa: E402
+import programs  # noqa: E402
 
 
 def script(text):
@@ -60,10 +61,11 @@ def explained(states):
 
 
 def write(stdin, stdout):
-    program = TOP / "target/bin/states"
-    if not program.exists():
-        sys.exit("examples: %s is not built: run `rt check states`" % program.relative_to(TOP))
-    states = subprocess.run([program], input=stdin, capture_output=True, check=True).stdout
+    try:
+        program = programs.command("states")
+    except programs.Failed as reason:
+        sys.exit("examples: %s" % reason)
+    states = subprocess.run(program, input=stdin, capture_output=True, check=True).stdout
     for place, text in ((BENCH / "stdin", stdin), (BENCH / "stdout", stdout), (STATES / "stdin", stdin), (STATES / "stdout", states), *explained(states)):
         place.parent.mkdir(exist_ok=True)
         place.write_bytes(text)

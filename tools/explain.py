@@ -47,7 +47,7 @@ NOTES = {
     6: "wrong CRC word: nothing of this frame is queued, written or read",
     7: "wrong CRC word: what this frame did before it stands",
     8: "TX is full: the word is dropped, what was not sent is lost",
-    9: "no free place in the queue: this forward is refused, what was not sent is lost",
+    9: "too few free places in the queue: this forward is refused, what was not sent is lost",
     10: "CCSICTRL is not written: the line is busy",
     11: "no soft reset: the bridge is still sending",
     12: "chip select released before the CRC word",
@@ -222,9 +222,24 @@ def why_waiting(state):
 
 
 def under_way(state):
-    """The place whose command is being sent, or None."""
+    """The command that is being sent, by its columns, or None."""
     place = "place%d." % state["begun"]
-    return place if state["begun"] and not state[place + "sent"] else None
+    return place if state["begun"] and (not state[place + "sent"] or state[place + "ends"]) else None
+
+
+def queued(state):
+    return ["place%d." % i for i in range(1, state["used"] + 1)]
+
+
+def in_use(state):
+    """The places in use: a command with words and extra ENDs has two."""
+    return sum(2 if state[place + "words"] and state[place + "ends"] else 1 for place in queued(state))
+
+
+def freed(before, after):
+    fewer = in_use(before) - in_use(after)
+    if fewer > 0:
+        yield "%s freed, %d of %d in use" % ("place" if fewer == 1 else "both places", in_use(after), PLACES)
 
 
 def words_out(state):
@@ -239,6 +254,11 @@ def cut_off(state):
     return ", the command under way cut in its ENDs, all its words out" if words_out(state) else ", the command under way cut"
 
 
+def speaks(state, place):
+    """Whether a command has words that are not sent yet."""
+    return state[place + "words"] and not state[place + "sent"]
+
+
 def over(state):
     """What the last 1 of an END ends."""
     place = under_way(state)
@@ -246,7 +266,13 @@ def over(state):
         return "the END that was owed is sent"
     if state[CUT]:
         return "the command is over, cut short: the boards have not got all of it"
-    return "the command is sent" if state[place + "words"] else "its ENDs are sent"
+    return "the command is sent" if speaks(state, place) else "its ENDs are sent"
+
+
+def to_go(before, after):
+    """An END's last 1, with others to follow."""
+    place = under_way(before)
+    yield ("its words are sent, " if place and speaks(before, place) else "") + many(after["sender.ends"], "END") + " to go"
 
 
 def sent(event, before, after):
@@ -262,8 +288,10 @@ def sent(event, before, after):
             yield "SOUT: bit %d of word %04X" % (WORD_BITS - gone, word)
     elif is_in(after, "sender.piece", "end_piece"):
         yield "SOUT: END, bit %d of %d" % (gone, END_BITS)
-        if gone == END_BITS:
-            yield many(after["sender.ends"], "END") + " to go" if after["sender.ends"] else over(before)
+        if gone == END_BITS and after["sender.ends"]:
+            yield from to_go(before, after)
+        elif gone == END_BITS:
+            yield over(before)
     elif after["used"] > after["begun"]:
         yield "SOUT: idle, %s to send and none may start: %s" % (many(after["used"] - after["begun"], "command"), why_waiting(before))
     else:
@@ -299,8 +327,7 @@ def read(event, before, after):
 def ticked(event, before, after):
     yield from sent(event, before, after)
     yield from read(event, before, after)
-    if after["used"] < before["used"]:
-        yield "place freed, %d of %d in use" % (after["used"], PLACES)
+    yield from freed(before, after)
 
 
 def clocked(event, before, after):
@@ -331,11 +358,13 @@ def is_owing(state):
 
 def lost(state, more=0):
     """What goes with TX and the queue of this state, and so many commands besides."""
-    unsent = state["used"] - state["begun"] + (under_way(state) is not None and not words_out(state))
+    speaking = under_way(state) is not None and not words_out(state)
+    unsent = state["used"] - state["begun"] + speaking
+    gone = sum(state[place + "words"] > 0 for place in queued(state)[:state["begun"]]) - speaking
     if unsent + more:
         yield "%s not sent, lost" % many(unsent + more, "command")
-    if state["used"] > unsent:
-        yield "%s gone out and not read back, no longer waited for" % many(state["used"] - unsent, "command")
+    if gone:
+        yield "%s gone out and not read back, no longer waited for" % many(gone, "command")
 
 
 def is_clear(event, before, after):
@@ -345,8 +374,9 @@ def is_clear(event, before, after):
 
 def beside(event, before, after):
     """What is said of every event but a power-up, behind its own words."""
-    if after["used"] > before["used"]:
-        yield "queued, %d of %d places in use" % (after["used"], PLACES)
+    more = in_use(after) - in_use(before)
+    if more > 0:
+        yield "queued%s, %d of %d places in use" % (" in two places" if more == 2 else "", in_use(after), PLACES)
     if is_clear(event, before, after):
         yield "transmit clear: TX and queue emptied%s, one END owed" % cut_off(before)
         if before["reader.belongs"]:

@@ -5,9 +5,8 @@ use mathlib.Core.List.{List, [], _∷_, _++_}
 use mathlib.Core.Logic.{_≢_}
 use Prim.Native.Nat.{ℕ, _+_, _-_, _/_, _≤_, _<_}
 use native.Mathlib.Omega.{arith}
-use lib.Dec.{ltb, eqb}
+use lib.Dec.{eqb}
 use borrow.Author.Tests.{ltb-true, eqb-true, lt-ltb, le-ltb}
-use Rattle.state.specs.Queue.{speaks}
 use Rattle.base.specs.Pick.{pick, and-l, and-r}
 use Rattle.base.specs.Truth.{never}
 use Rattle.command.specs.Layouts.{Layout}
@@ -21,6 +20,7 @@ use Rattle.state.specs.declared.Note.the-variants.{TxEmpty}
 use Rattle.state.specs.declared.Place.{Place}
 use Rattle.state.specs.declared.Sender.{Sender}
 use Rattle.state.specs.declared.Sending.{Sending}
+use Rattle.state.specs.Queue.{speaks}
 use Rattle.next.specs.Next.{mayStart, choose, isStarve}
 use Rattle.next.specs.declared.Next.{Next}
 use Rattle.next.specs.declared.Next.the-variants.{GoOn, LoadWord, Starve, LoadEnd, StartWords, StartEnds, Stay}

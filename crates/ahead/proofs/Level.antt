@@ -12,7 +12,7 @@ use Rattle.base.specs.Truth.{never}
 use Rattle.base.specs.Pick.{pick}
 use Rattle.command.specs.Layouts.{Layout}
 use Rattle.line.specs.declared.Piece.the-variants.{StartBit}
-use Rattle.state.specs.Queue.{places, waiting, wordsOf}
+use Rattle.state.specs.Queue.{waiting, wordsOf}
 use Rattle.state.specs.Rings.{txSize}
 use Rattle.state.specs.declared.Bridge.{Bridge}
 use Rattle.state.specs.declared.Deed.the-variants.{Enqueue}

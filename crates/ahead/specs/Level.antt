@@ -26,7 +26,7 @@ starts c Release = false
 starts c (Tick sin) = isStart (choose (c .bridge .sending) (mayStart (c .bridge .control)))
 starts c (ClockReading reading) = false
 
--- No word of an earlier command is still to be taken: TX holds the words of one frame alone. An END, and places of ENDs alone, may still go out.
+-- No word of an earlier command is still to be taken: TX holds the words of one frame alone. An END, extra ENDs, and ENDs alone may still go out.
 -- Event e queues that frame's command, and so many events later its start bit goes out, at a tick. 01 Frames; The line
 pub record Alone (l : Layout) (c : Config) (e : Event) (q : Place) (es : List Event) (sin : Bool) : Type 0 where
   pub whole : Whole c

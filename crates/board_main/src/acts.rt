@@ -90,7 +90,7 @@ fn called(night: Night, left: Called) -> Night {
         night.desk,
         text_of(verdict, control),
         verdict::number(verdict),
-        bridge.sending.queue.used,
+        queue::in_use(bridge.sending.queue),
         bridge.sending.tx.count,
     );
     if verdict::is_taken(verdict) {

@@ -3,11 +3,9 @@ use mathlib.Core.Path.{_≡_, refl}
 use mathlib.Core.Bool.{Bool, true, false}
 use mathlib.Core.List.{List, [], _∷_}
 use Prim.Native.Nat.{ℕ}
-use Rattle.state.specs.Queue.{placesOf, placesIn}
 use Rattle.base.specs.Pick.{pick}
 use Rattle.command.specs.Layouts.{ours}
-use Rattle.line.specs.Format.{pieceLength}
-use Rattle.registers.specs.Registers.{blocking, isNormal, powerUpControl, powerUpFlags}
+use Rattle.registers.specs.Registers.{blocking, powerUpControl, powerUpFlags}
 use Rattle.state.specs.Power.{powerUp, badControl, powerUpBad}
 use Rattle.next.specs.Next.{choose, bitSent}
 use Rattle.sender.specs.Sender.{sentBy, tickSender}

@@ -5,7 +5,6 @@ use mathlib.Core.Bool.{Bool, true, false, not, _||_}
 use mathlib.Core.List.{List, [], _∷_}
 use Prim.Native.Nat.{ℕ, zero, suc, _+_}
 use lib.Dec.{eqb}
-use Rattle.state.specs.declared.Queue.{Queue}
 use Rattle.base.specs.Pick.{pick, pick-keeps}
 use Rattle.command.specs.Layouts.{Layout}
 use Rattle.command.specs.declared.Command.{Command}
@@ -35,6 +34,7 @@ use Rattle.answers.specs.Answers.{answerWith, dataAnswered, registerAnswered, a
 use Rattle.writes.specs.declared.Effects.{Effects}
 use Rattle.forwards.specs.declared.Granted.{Granted}
 use Rattle.state.specs.declared.Progress.{Progress}
+use Rattle.state.specs.declared.Queue.{Queue}
 use Rattle.plan.specs.declared.Plan.{Plan}
 use Rattle.forwards.specs.declared.Wish.{Wish}
 use Rattle.bridge.specs.Runs.{refuses, faults}

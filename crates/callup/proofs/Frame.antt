@@ -10,8 +10,6 @@ use lib.ListN.{length}
 use lib.Seq.{getD-set-same, getD-set-other, set-out}
 use native.Mathlib.Decide.{ℕ-discrete, decLe}
 use borrow.Author.Tests.{lt-ltb, le-ltb, lt-leb, eq-eqb, ne-eqb}
-use Rattle.queue.proofs.Laws.{has-record}
-use Rattle.kept.proofs.InUse.{one-endless, in-use-queued}
 use Rattle.base.specs.Pick.{pick, pick-keeps}
 use Rattle.base.specs.Bits.{bit}
 use Rattle.command.specs.Layouts.{Layout}
@@ -58,6 +56,8 @@ use Rattle.state.specs.Rings.{cellOf}
 use Rattle.bridge.proofs.Reached.{Obeys, obeyed-turn, step-obeys}
 use Rattle.frames.specs.Orders.{commandWord}
 use Rattle.frames.specs.declared.Order.the-variants.{FwdWrCrc}
+use Rattle.queue.proofs.Laws.{has-record}
+use Rattle.kept.proofs.InUse.{one-endless, in-use-queued}
 use Rattle.callup.specs.CallUp.{given, sumBy, Speaks}
 
 -- The data words of a frame and its CRC word, from a sum so far, and chip select released.

@@ -8,13 +8,13 @@ use lib.ListN.{length}
 use Rattle.line.specs.declared.Piece.{Piece}
 use Rattle.line.specs.Format.{pieceLength}
 use Rattle.state.specs.Sending.{owing, stored, done}
-use Rattle.queue.proofs.Laws.{has-record}
 use Rattle.state.specs.Facts.{Doable}
 use Rattle.state.specs.declared.Place.{Place}
 use Rattle.state.specs.declared.Sending.{Sending}
 use Rattle.state.specs.declared.Store.{Store}
 use Rattle.state.specs.declared.Deed.{Deed}
 use Rattle.state.specs.declared.Deed.the-variants.{Enqueue, TakeBack, ClearAll, ResetAll}
+use Rattle.queue.proofs.Laws.{has-record}
 
 -- an arm knows the constructor
 pub to-stored : (s : Sending) (e v : Store) (x : Sending) → v ≡ e → x ≡ stored s e → x ≡ stored s v

@@ -8,10 +8,10 @@ use Rattle.base.specs.Bits.{val, odd, bit, highFirst}
 use Rattle.base.specs.Pick.{pick}
 use Rattle.crc16.specs.Crc.{shift, crcBit, crcBits, crcWord}
 use Rattle.command.specs.Layouts.{ours}
-use Rattle.line.specs.Format.{checkBit, pieceLength, wordBit, pieceBit}
+use Rattle.line.specs.Format.{checkBit, wordBit, pieceBit}
 use Rattle.line.specs.Reader.{hear}
 use Rattle.registers.specs.Raising.{raised}
-use Rattle.registers.specs.Registers.{blocking, isNormal, powerUpControl, table, resetRegs, cleared, powerUpFlags}
+use Rattle.registers.specs.Registers.{blocking, powerUpControl, table, resetRegs, cleared, powerUpFlags}
 use Rattle.registers.specs.declared.Mode.the-variants.{Normal}
 use Rattle.state.specs.Frame.{mineOf, toCome, phaseSound}
 use Rattle.state.specs.Power.{powerUp}
@@ -21,8 +21,8 @@ use Rattle.state.specs.declared.Bridge.{Bridge}
 use Rattle.state.specs.declared.Note.the-variants.{WrongStores, BrokenRecord}
 use Rattle.place_rules.specs.Places.{roleSound, slotSound, slotsBelow}
 use Rattle.line_rules.specs.Line.{pieceSound, earSound, marksSound, endSound}
-use Rattle.frame_rules.specs.Frames.{otpSound, isUnmarked}
-use Rattle.next.specs.Next.{choose, bitSent, isStarve, isStart}
+use Rattle.frame_rules.specs.Frames.{isUnmarked}
+use Rattle.next.specs.Next.{choose, bitSent}
 use Rattle.sender.specs.Sender.{wordSent, queueSent, senderAfter, advanced, placeSent, finished, sentBy, tickSender, commandSent}
 use Rattle.reader.specs.Reader.{takenBy, tickReader}
 use Rattle.plan.specs.Plan.{settled}

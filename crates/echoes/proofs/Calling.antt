@@ -7,7 +7,6 @@ use native.Mathlib.Omega.{arith}
 use lib.ListN.{length}
 use lib.Seq.{getD-set-other}
 use borrow.Author.Tests.{lt-ltb}
-use Rattle.callup.proofs.Frame.{one-record, one-more}
 use Rattle.base.specs.Pick.{pick}
 use Rattle.command.specs.Layouts.{Layout}
 use Rattle.state.specs.Queue.{noPlace, newPlace, queued, waiting, inUse}
@@ -23,6 +22,7 @@ use Rattle.order.proofs.Waiting.{QueueOk, waiting-push, queue-push}
 use Rattle.callup.specs.CallUp.{callUp, ticksFor}
 use Rattle.callup.specs.Taken.{Takes}
 use Rattle.callup.proofs.Taken.{Taken}
+use Rattle.callup.proofs.Frame.{one-record, one-more}
 use Rattle.echoes.proofs.Counts.{unreadBit, unread, unread-same}
 use Rattle.echoes.proofs.Ticks.{Tuned}
 

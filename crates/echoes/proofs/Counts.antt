@@ -14,8 +14,8 @@ use Rattle.state.specs.Queue.{noPlace, placeAt, withPlace, begunOne, freed, isD
 use Rattle.state.specs.declared.Place.{Place}
 use Rattle.state.specs.declared.Queue.{Queue}
 use Rattle.state.specs.declared.Returned.{Returned}
-use Rattle.kept.proofs.Queue.{begun-freed}
-use Rattle.kept.proofs.Standing.{other-place, same-place, freed-below, freed-above}
+use Rattle.kept.proofs.Queue.{freed-below, freed-above, begun-freed}
+use Rattle.kept.proofs.Standing.{other-place, same-place}
 
 -- 1 for a place with words that is not yet read
 abbrev pub unreadBit : Place → ℕ
@@ -89,8 +89,8 @@ unfolding returned
 unread-returned q i p h b e =
     pick-keeps (λ (r : Returned). unread (r .queue) + unreadBit (placeAt q i) ≡ unread q + unreadBit p) _ _ _
     (λ d. pick-keeps (λ (r : Queue). unread r + unreadBit (placeAt q i) ≡ unread q + unreadBit p) _ _ _
-    (λ m. let z : unreadBit (newPlace 0 (p .ends) (p .store)) ≡ 0 = unfold newPlace val in refl in
-    omega (arith, unread-set q i (newPlace 0 (p .ends) (p .store)) (q .begun) h (omega arith), z, bit-done p d))
+    (λ m. let z : unreadBit (newPlace 0 (p .ends) false) ≡ 0 = unfold newPlace val in refl in
+    omega (arith, unread-set q i (newPlace 0 (p .ends) false) (q .begun) h (omega arith), z, bit-done p d))
     (λ m. let n : freed q i .begun ≡ q .begun - 1 = begun-freed q i in
     let s : suc (q .begun - 1) ≡ q .begun = omega arith in
     let a : unreadBelow (freed q i .places) (q .begun - 1) + unreadBit (placeAt q i) ≡ unreadBelow (q .places) (suc (q .begun - 1)) = unread-freed q i (q .begun - 1) (omega arith) (omega arith) in

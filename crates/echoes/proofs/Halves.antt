@@ -8,7 +8,6 @@ use native.Mathlib.Decide.{ℕ-discrete}
 use lib.Dec.{ltb, leb}
 use lib.ListN.{length, take, getD}
 use borrow.Author.Tests.{lt-ltb, le-leb, eq-eqb, ltb-true}
-use Rattle.queue.proofs.Laws.{busy-begun, speaking-begun}
 use Rattle.base.specs.Pick.{pick, pick-keeps, and-l, and-r}
 use Rattle.base.specs.Bits.{val}
 use Rattle.base.specs.Truth.{never}
@@ -26,6 +25,7 @@ use Rattle.state.specs.declared.Receiving.{Receiving}
 use Rattle.state.specs.declared.Returned.{Returned}
 use Rattle.state.specs.declared.Sender.{Sender}
 use Rattle.state.specs.declared.Sending.{Sending}
+use Rattle.queue.proofs.Laws.{busy-begun, speaking-begun}
 use Rattle.place_rules.specs.Places.{waits, awaits}
 use Rattle.rules.specs.Facts.{Standing}
 use Rattle.next.specs.Next.{bitSent, isStarve, isStart}

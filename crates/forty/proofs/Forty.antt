@@ -7,15 +7,15 @@ use native.Mathlib.Omega.{arith}
 use lib.Dec.{ltb, eqb}
 use lib.ListN.{length}
 use borrow.Author.Tests.{eq-eqb, eqb-true, le-ltb, lt-ltb, ne-eqb}
-use Rattle.state.specs.Queue.{newPlace, queued, inUse}
-use Rattle.kept.proofs.Queue.{eight-queued}
 use Rattle.base.specs.Pick.{pick, pick-keeps}
 use Rattle.command.specs.Layouts.{ours}
 use Rattle.line.specs.Format.{Words}
 use Rattle.rules.specs.Sound.{sound}
 use Rattle.state.specs.declared.Queue.{Queue}
+use Rattle.state.specs.Queue.{newPlace, queued, inUse}
 use Rattle.events.specs.declared.Event.{Event}
 use Rattle.kept.proofs.Fits.{ours-fits}
+use Rattle.kept.proofs.Queue.{eight-queued}
 use Rattle.bridge.specs.Runs.{Config, RightStores, Whole, endOf, soutOf, powerOn}
 use Rattle.bridge.proofs.Reached.{Obeys, obeys-whole, run-obeys, power-obeys}
 use Rattle.order.specs.Accepted.{Log, noLog, joined, logBy, listed, acceptedIn}

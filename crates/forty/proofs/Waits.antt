@@ -7,12 +7,12 @@ use native.Mathlib.Omega.{arith}
 use native.Mathlib.Decide.{ℕ-discrete}
 use lib.ListN.{length}
 use borrow.Author.Tests.{eq-eqb, le-leb, le-ltb, ne-eqb}
-use Rattle.state.specs.declared.Queue.{Queue}
-use Rattle.state.specs.Queue.{inUse, placesIn}
 use Rattle.base.specs.Pick.{pick}
 use Rattle.base.specs.Truth.{never}
 use Rattle.command.specs.Layouts.{ours}
 use Rattle.state.specs.declared.Phase.the-variants.{Idle}
+use Rattle.state.specs.declared.Queue.{Queue}
+use Rattle.state.specs.Queue.{inUse, placesIn}
 use Rattle.events.specs.declared.Event.{Event}
 use Rattle.events.specs.declared.Event.the-variants.{Tick}
 use Rattle.kept.proofs.Fits.{ours-fits}

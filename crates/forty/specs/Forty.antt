@@ -7,10 +7,10 @@ use mathlib.Core.List.{List, [], _∷_, _++_}
 use mathlib.Core.Logic.{_≢_}
 use Prim.Native.Nat.{ℕ, _+_, _≤_, _<_}
 use lib.ListN.{length, getD, take}
-use Rattle.state.specs.Queue.{inUse}
 use Rattle.command.specs.Layouts.{ours}
 use Rattle.line.specs.Format.{Words}
 use Rattle.state.specs.declared.Phase.the-variants.{Idle}
+use Rattle.state.specs.Queue.{inUse}
 use Rattle.rules.specs.Sound.{sound}
 use Rattle.events.specs.declared.Event.{Event}
 use Rattle.bridge.specs.Runs.{Config, RightStores, Whole, ticksIn, endOf, soutOf, powerOn}

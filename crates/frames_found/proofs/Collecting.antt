@@ -5,7 +5,6 @@ use mathlib.Core.Bool.{Bool, true, false, _||_}
 use Prim.Native.Nat.{ℕ, _+_, _<_}
 use native.Mathlib.Omega.{arith}
 use lib.ListN.{take}
-use Rattle.state.specs.declared.Queue.{Queue}
 use Rattle.base.specs.Pick.{pick, pick-keeps}
 use Rattle.base.specs.Truth.{never}
 use Rattle.command.specs.Layouts.{ours}
@@ -21,6 +20,7 @@ use Rattle.state.specs.declared.Phase.{Phase}
 use Rattle.state.specs.declared.Phase.the-variants.{Idle, Collecting, Answering}
 use Rattle.state.specs.declared.Progress.{Progress}
 use Rattle.state.specs.declared.Reply.the-variants.{Data, Registers}
+use Rattle.state.specs.declared.Queue.{Queue}
 use Rattle.forwards.specs.Forward.{guard, forwarded, forwardWord, forwardBegun}
 use Rattle.forwards.specs.declared.Granted.{Granted}
 use Rattle.forwards.specs.declared.Wish.{Wish}

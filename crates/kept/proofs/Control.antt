@@ -5,7 +5,6 @@ use mathlib.Core.Bool.{Bool, true, false, not, _&&_, _||_}
 use mathlib.Core.List.{List, [], _∷_}
 use Prim.Native.Nat.{ℕ, zero, suc, _+_}
 use lib.Dec.{ltb, eqb}
-use Rattle.state.specs.declared.Queue.{Queue}
 use Rattle.base.specs.Bits.{bit}
 use Rattle.base.specs.Pick.{pick, pick-keeps}
 use Rattle.command.specs.Layouts.{Layout}
@@ -28,7 +27,7 @@ use Rattle.plan.specs.declared.Receive.{Receive}
 use Rattle.plan.specs.declared.Receive.the-variants.{LeaveRx, PopRx, StopRx, EmptyRx, ResetRx}
 use Rattle.forwards.specs.declared.Wish.{Wish}
 use Rattle.registers.specs.Raising.{raised, raisedIn}
-use Rattle.registers.specs.Registers.{cleared, blocking, isNormal, isFailsafe, rxff}
+use Rattle.registers.specs.Registers.{cleared, blocking, rxff}
 use Rattle.registers.specs.Writing.{withRegs, modeAfter, writeCcsictrl, writeTxfflvl, writeRxfflvl, writeStatus, writeMasked, writeOf}
 use Rattle.registers.specs.declared.Control.{Control}
 use Rattle.registers.specs.declared.Flag.{Flag}
@@ -51,6 +50,7 @@ use Rattle.rules.specs.Facts.{ControlRules}
 use Rattle.frame_rules.specs.Frames.{otpSound, drdySound, isUnmarked}
 use Rattle.state.specs.Frame.{isForward}
 use Rattle.base.specs.Truth.{or-true, or-left, and-none, and-not}
+use Rattle.state.specs.declared.Queue.{Queue}
 
 -- 1. DRDY, which is settled after each event.
 

@@ -2,8 +2,6 @@
 -- at a free place only, and a frame takes back no more than its own words (01 Frames; notes 6, 9 and 12). Assumes nothing.
 use mathlib.Core.Bool.{Bool, true}
 use Prim.Native.Nat.{ℕ, _≤_}
-use borrow.Author.Tests.{leb-false}
-use Rattle.queue.proofs.Laws.{has-places}
 use Rattle.base.specs.Pick.{pick, pick-keeps}
 use Rattle.command.specs.Layouts.{Layout}
 use Rattle.command.specs.declared.Command.{Command}
@@ -31,6 +29,7 @@ use Rattle.state.specs.declared.Reply.{Reply}
 use Rattle.state.specs.declared.Reply.the-variants.{Status, Data, Registers, Check}
 use Rattle.state.specs.declared.Sending.{Sending}
 use Rattle.state.specs.declared.Store.{Store}
+use Rattle.queue.proofs.Laws.{has-places}
 
 abbrev Grants : Sending → Store → Granted → Type 0
 Grants s st g = Doable (stored s st) (g .deed)

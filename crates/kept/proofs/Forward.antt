@@ -1,16 +1,15 @@
 -- A forward's words, as they are granted, keep the rules of the sending side and of the frame (01 Frames; notes 5, 8 and 9). Assumes nothing.
 use mathlib.Core.Path.{_≡_, refl}
 use mathlib.Core.Bool.{Bool, true, false, not, _&&_, _||_}
-use Prim.Native.Nat.{ℕ, zero, suc, _+_, _-_, _≤_, _<_}
+use Prim.Native.Nat.{ℕ, suc, _+_, _-_, _≤_, _<_}
 use native.Mathlib.Omega.{arith}
 use lib.Dec.{ltb, leb, eqb}
 use borrow.Author.Tests.{leb-true, leb-false, eqb-true, lt-ltb, le-leb, eq-eqb}
-use Rattle.queue.proofs.Laws.{has-places, has-record}
 use Rattle.base.specs.Pick.{pick, pick-keeps, and-l, and-r}
 use Rattle.command.specs.declared.Command.the-variants.{Forward}
 use Rattle.forwards.specs.Forward.{wish, granted, asksStore, guard, mineAfter, enqueues, clears}
 use Rattle.forwards.specs.declared.Granted.{Granted}
-use Rattle.state.specs.Frame.{fwd, progress, dataWords, mineOf, owedBy, toCome, forwardSound, collectSound, phaseSound}
+use Rattle.state.specs.Frame.{fwd, progress, mineOf, owedBy, toCome, forwardSound, collectSound, phaseSound}
 use Rattle.state.specs.Queue.{newPlace, lacks, inUse, placesOf}
 use Rattle.state.specs.Rings.{ringAfter}
 use Rattle.state.specs.Sending.{stored, done}
@@ -29,6 +28,7 @@ use Rattle.kept.proofs.Stands.{Asks}
 use Rattle.kept.proofs.Deeds.{rules-none, rules-put-mine, rules-put-owed, rules-enqueued, rules-cleared}
 use Rattle.kept.specs.Rules.{SendRules}
 use Rattle.base.specs.Truth.{or-true}
+use Rattle.queue.proofs.Laws.{has-places, has-record}
 use Rattle.kept.proofs.Owed.{blocked-brings-none}
 
 -- A word stored or none, then a deed, and the phase after them: rules kept.

@@ -2,25 +2,25 @@
 use mathlib.Core.Path.{_≡_, refl, sym, _∙_, ap}
 use mathlib.Core.Bool.{Bool, true, false, not, _&&_, _||_}
 use mathlib.Core.List.{List, [], _∷_}
-use Prim.Native.Nat.{ℕ, zero, suc, _+_, _-_, _≤_, _<_}
+use Prim.Native.Nat.{ℕ, suc, _+_, _-_, _≤_, _<_}
 use native.Mathlib.Omega.{arith}
 use lib.Dec.{ltb, eqb}
 use lib.ListN.{length, take}
 use borrow.Author.Tests.{ltb-true, ltb-false, lt-ltb, eqb-true, eqb-false, not-true}
 use Rattle.base.specs.Pick.{pick, pick-keeps, and-l, and-r}
 use Rattle.rules.specs.Facts.{Standing}
-use Rattle.place_rules.specs.Places.{waits, awaits}
+use Rattle.place_rules.specs.Places.{awaits}
 use Rattle.line_rules.specs.Line.{isUnread}
 use Rattle.state.specs.Facts.{QueueFit}
 use Rattle.state.specs.Queue.{placeAt, withPlace, underWay, freed, firstUnread, claimed, isDone, returned, lastBegun, speaks, speaking, newPlace, placesOf}
 use Rattle.state.specs.declared.Place.{Place}
 use Rattle.state.specs.declared.Queue.{Queue}
 use Rattle.state.specs.declared.Returned.{Returned}
-use Rattle.kept.proofs.Queue.{begun-freed, used-freed}
+use Rattle.kept.proofs.Queue.{freed-below, freed-above, begun-freed, used-freed}
 use Rattle.base.specs.Truth.{never, none-left, and-none}
 use Rattle.queue.proofs.Laws.{some-place}
+use Rattle.kept.proofs.Standing.{awaits-sent, awaits-ended, awaits-undone, other-place, same-place, as-it-was, words-freed, Steady, Unread, unread-by}
 use Rattle.kept.proofs.InUse.{one-endless, one-wordless, same-places, in-use-put, in-use-freed}
-use Rattle.kept.proofs.Standing.{awaits-sent, awaits-ended, awaits-undone, other-place, same-place, freed-below, freed-above, Onward, as-it-was, words-freed, Steady, Unread, unread-by, unread-begun}
 
 -- 1. The command under way is sent, or its words are.
 
@@ -151,7 +151,7 @@ module _ (q : Queue) (f : QueueFit q) (l : length (q .places) ≡ 8) (s : Standi
 
     module _ (m : p .ends ≡ lastBegun q .ends) (more : 0 < lastBegun q .ends) where
       abbrev ends-left : Place
-      ends-left = newPlace 0 (p .ends) (p .store)
+      ends-left = newPlace 0 (p .ends) false
 
       words-left : isDone p ≡ true → Spoken q (withPlace q (q .begun - 1) ends-left)
       unfolding newPlace
@@ -252,7 +252,7 @@ module _ (q : Queue) (f : QueueFit q) (l : length (q .places) ≡ 8) (s : Standi
       go false h = let i : q .begun ≤ 1 = ltb-false _ _ h in omega arith
 
   abbrev its-ends : Place
-  its-ends = newPlace 0 (p .ends) (p .store)
+  its-ends = newPlace 0 (p .ends) false
 
   first-left : isDone p ≡ true → 0 < p .ends → Steady q (withPlace q 0 its-ends)
   unfolding newPlace

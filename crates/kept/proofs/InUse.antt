@@ -1,5 +1,5 @@
 -- The places in use, by what is done to the queue (02 item 3: "a forward with both takes two places"). Assumes nothing.
-use mathlib.Core.Path.{_≡_, refl, sym, _∙_, ap}
+use mathlib.Core.Path.{_≡_, refl, _∙_, ap}
 use mathlib.Core.Bool.{Bool, true, false, _&&_}
 use mathlib.Core.List.{List, [], _∷_, _++_}
 use Prim.Native.Nat.{ℕ, zero, suc, _+_, _-_, _≤_, _<_}
@@ -7,13 +7,13 @@ use native.Mathlib.Omega.{arith}
 use lib.Dec.{ltb}
 use lib.ListN.{length, take, getD, set}
 use lib.Seq.{take-suc, take-suc-set}
-use borrow.Author.Tests.{ltb-true, ltb-false, lt-ltb}
+use borrow.Author.Tests.{ltb-true, ltb-false}
 use Rattle.base.specs.Pick.{pick}
 use Rattle.state.specs.Facts.{QueueFit}
-use Rattle.state.specs.Queue.{noPlace, placeAt, withPlace, queued, placesOf, placesIn, inUse, moved, freed}
+use Rattle.state.specs.Queue.{noPlace, placeAt, withPlace, queued, placesOf, placesIn, inUse, freed}
 use Rattle.state.specs.declared.Place.{Place}
 use Rattle.state.specs.declared.Queue.{Queue}
-use Rattle.kept.proofs.Queue.{place-freed, moved-up, used-freed, eight-freed}
+use Rattle.kept.proofs.Queue.{freed-below, freed-above, used-freed, eight-freed}
 
 -- 1. Of one command.
 
@@ -71,20 +71,12 @@ by-one ps (suc n) h =
     rw (take-suc ps n noPlace (omega arith)) (places-in-snoc (take n ps) (getD ps n noPlace) ∙ rw (by-one ps n (omega arith)) refl)
 
 module _ (q : Queue) (i : ℕ) where
-  -- below the freed one they are as they were, above they have moved up
-  below : (n : ℕ) → n < 8 → n < i → placeAt (freed q i) n ≡ placeAt q n
-  unfolding moved pick
-  below n b h = place-freed q i n b ∙ rw (lt-ltb n i h)
-
-  above : (n : ℕ) → n < 8 → i ≤ n → placeAt (freed q i) n ≡ placeAt q (suc n)
-  above n b h = place-freed q i n b ∙ moved-up (q .places) i n h
-
   sum-below : (n : ℕ) → n ≤ 8 → n ≤ i → sumTo (freed q i .places) n ≤ sumTo (q .places) n
   unfolding sumTo
   sum-below zero b h = omega arith
   sum-below (suc n) b h =
       let k : sumTo (freed q i .places) n ≤ sumTo (q .places) n = sum-below n (omega arith) (omega arith) in
-      let e : placesOf (placeAt (freed q i) n) ≡ placesOf (placeAt q n) = ap placesOf (below n (omega arith) (omega arith)) in
+      let e : placesOf (placeAt (freed q i) n) ≡ placesOf (placeAt q n) = ap placesOf (freed-below q i n (omega arith) (omega arith)) in
       omega arith
 
   sum-freed : (n : ℕ) → n ≤ 8 → sumTo (freed q i .places) n ≤ sumTo (q .places) (suc n)
@@ -98,7 +90,7 @@ module _ (q : Queue) (i : ℕ) where
           let m : sumTo (freed q i .places) (suc n) ≤ sumTo (q .places) (suc n) = sum-below (suc n) b (let c : n < i = ltb-true _ _ h in omega arith) in
           omega arith
       go false h k =
-          let e : placesOf (placeAt (freed q i) n) ≡ placesOf (placeAt q (suc n)) = ap placesOf (above n (omega arith) (ltb-false _ _ h)) in
+          let e : placesOf (placeAt (freed q i) n) ≡ placesOf (placeAt q (suc n)) = ap placesOf (freed-above q i n (omega arith) (ltb-false _ _ h)) in
           omega arith
 
 pub in-use-freed : (q : Queue) (i : ℕ) → QueueFit q → length (q .places) ≡ 8 → i < q .begun → inUse (freed q i) ≤ inUse q

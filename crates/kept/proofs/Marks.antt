@@ -3,24 +3,22 @@
 use mathlib.Core.Path.{_≡_, refl, sym, _∙_}
 use mathlib.Core.Bool.{Bool, true, false, not, _&&_, _||_}
 use Prim.Native.Nat.{ℕ, _<_}
-use lib.Dec.{ltb}
 use lib.ListN.{length}
 use borrow.Author.Tests.{ltb-true, not-true}
-use Rattle.queue.proofs.Laws.{has-record}
-use Rattle.base.specs.Pick.{pick, pick-keeps, and-l, and-r, and-both}
+use Rattle.base.specs.Pick.{pick-keeps, and-l, and-r}
 use Rattle.base.specs.Truth.{or-end}
 use Rattle.writes.specs.Writes.{isQuiet}
 use Rattle.plan.specs.Plan.{clearedAway, received}
 use Rattle.plan.specs.declared.Plan.{Plan}
 use Rattle.plan.specs.declared.Receive.{Receive}
 use Rattle.plan.specs.declared.Receive.the-variants.{LeaveRx, PopRx, StopRx, EmptyRx, ResetRx}
-use Rattle.line.specs.Reader.{heard, runOn, shiftIn, atCheck, inGroup, inLost, hear}
+use Rattle.line.specs.Reader.{atCheck, inGroup, inLost, hear}
 use Rattle.line.specs.declared.Ear.{Ear}
 use Rattle.line.specs.declared.Ear.the-variants.{Quiet, Group, Lost}
 use Rattle.line.specs.declared.Found.{Found}
 use Rattle.line.specs.declared.Found.the-variants.{Nothing, Start, Word, End, CheckError, Over}
 use Rattle.line.specs.declared.Heard.{Heard}
-use Rattle.reader.specs.Reader.{isClaim, began, placeWord, placeDamaged, placeRead, wordRead, errorRead, endRead, wordTaken, atEnd, ended, takenBy, tickReader}
+use Rattle.reader.specs.Reader.{isClaim, began, placeRead, wordRead, errorRead, endRead, wordTaken, atEnd, ended, takenBy, tickReader}
 use Rattle.reader.specs.declared.Taken.{Taken}
 use Rattle.registers.specs.Raising.{raised}
 use Rattle.registers.specs.Registers.{rxff}
@@ -29,7 +27,7 @@ use Rattle.registers.specs.declared.Flags.{Flags}
 use Rattle.rules.specs.Facts.{Standing}
 use Rattle.line_rules.specs.Line.{isUnread, heardMarks, marksSound}
 use Rattle.state.specs.Facts.{QueueFit}
-use Rattle.state.specs.Queue.{placeAt, claimed, queued, returned}
+use Rattle.state.specs.Queue.{placeAt, claimed, queued}
 use Rattle.state.specs.Sending.{stored, done}
 use Rattle.state.specs.declared.Bridge.{Bridge}
 use Rattle.state.specs.declared.Deed.{Deed}
@@ -40,10 +38,11 @@ use Rattle.state.specs.declared.Receiving.{Receiving}
 use Rattle.state.specs.declared.Returned.{Returned}
 use Rattle.state.specs.declared.Sending.{Sending}
 use Rattle.state.specs.declared.Store.{Store}
+use Rattle.queue.proofs.Laws.{has-record}
 use Rattle.kept.proofs.Control.{Rises, stops, isReset}
 use Rattle.kept.proofs.Freed.{read-steady, claim-first}
 use Rattle.kept.proofs.Stands.{Asks}
-use Rattle.kept.proofs.Standing.{Alike, Steady, Unread, steady-same, unread-same, marked-steady, marked-unread, queued-unread, unread-begun}
+use Rattle.kept.proofs.Standing.{Steady, Unread, steady-same, unread-same, marked-steady, marked-unread, queued-unread, unread-begun}
 use Rattle.kept.specs.Rules.{BridgeRules}
 
 -- 1. Marks with another queue and other flags.

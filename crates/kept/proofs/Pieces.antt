@@ -1,23 +1,23 @@
 -- The sender's piece with what is left of its command, from bit to bit (01 The line, "A command is one 0, then each word .., then END").
 -- Assumes nothing.
-use mathlib.Core.Path.{_≡_, refl, sym, _∙_}
+use mathlib.Core.Path.{_≡_, refl}
 use mathlib.Core.Bool.{Bool, true, false, not, _&&_, _||_}
 use Prim.Native.Nat.{ℕ, _+_, _-_, _≤_, _<_}
 use native.Mathlib.Omega.{arith}
 use lib.Dec.{ltb, leb, eqb}
 use borrow.Author.Tests.{ltb-true, leb-true, eqb-true, eqb-false, lt-ltb, le-leb, eq-eqb}
-use Rattle.base.specs.Pick.{pick, pick-keeps, and-l, and-r}
+use Rattle.base.specs.Pick.{pick, and-l, and-r}
+use Rattle.base.specs.Truth.{never, and-none, or-true}
 use Rattle.line.specs.Format.{pieceLength}
 use Rattle.line.specs.declared.Piece.{Piece}
 use Rattle.line.specs.declared.Piece.the-variants.{Pause, StartBit, WordPiece, EndPiece}
-use Rattle.base.specs.Truth.{never, and-none, or-true}
 use Rattle.rules.specs.Facts.{SenderFit}
 use Rattle.line_rules.specs.Line.{endSound, pieceSound}
-use Rattle.state.specs.Queue.{underWay, lastBegun, speaks}
-use Rattle.state.specs.Sending.{idle}
+use Rattle.state.specs.Queue.{underWay, speaks}
 use Rattle.state.specs.declared.Place.{Place}
 use Rattle.state.specs.declared.Queue.{Queue}
 use Rattle.state.specs.declared.Sender.{Sender}
+use Rattle.state.specs.Sending.{idle}
 use Rattle.kept.proofs.Standing.{Onward, as-it-was, words-freed, Steady}
 
 -- with no command under way its words and ENDs do not matter

@@ -5,7 +5,7 @@ use mathlib.Core.List.{List, [], _∷_, _++_}
 use Prim.Native.Nat.{ℕ, zero, suc, _+_, _-_, _≤_, _<_}
 use native.Mathlib.Omega.{arith}
 use lib.Dec.{ltb}
-use lib.ListN.{length, take, drop, getD, set, length-drop, length-set, List·getD-eq-default}
+use lib.ListN.{length, take, drop, getD, set, length-drop, length-set}
 use lib.Seq.{drop-cons, take-suc, length-take-le, drop-set-add, drop-set-lt, take-suc-set, getD-take, getD-drop, ext-getD}
 use borrow.Author.Tests.{ltb-true, ltb-false, lt-ltb, le-ltb}
 use Rattle.base.specs.Pick.{pick, pick-keeps, and-l, and-r, and-both}
@@ -66,6 +66,14 @@ place-freed q i (suc (suc (suc (suc (suc (suc (suc (suc k)))))))) h = absurd (om
 pub moved-up : (ps : List Place) (i k : ℕ) → i ≤ k → moved ps i k ≡ getD ps (suc k) noPlace
 unfolding moved pick
 moved-up ps i k h = let n : k + 1 ≡ suc k = omega arith in rw (le-ltb k i h, n)
+
+-- below the freed one they are as they were, above they have moved up
+pub freed-below : (q : Queue) (i k : ℕ) → k < 8 → k < i → placeAt (freed q i) k ≡ placeAt q k
+unfolding moved pick
+freed-below q i k b h = place-freed q i k b ∙ rw (lt-ltb k i h)
+
+pub freed-above : (q : Queue) (i k : ℕ) → k < 8 → i ≤ k → placeAt (freed q i) k ≡ placeAt q (suc k)
+freed-above q i k b h = place-freed q i k b ∙ moved-up (q .places) i k h
 
 length-waiting : (q : Queue) → q .used ≤ length (q .places) → length (waiting q) ≡ q .used - q .begun
 unfolding waiting
@@ -204,7 +212,7 @@ pub kept-returned : (q : Queue) (i : ℕ) (p : Place) → QueueFit q → length 
 unfolding returned newPlace
 kept-returned q i p f l h w e =
     pick-keeps (λ (r : Returned). Kept q (r .queue)) (isDone p) _ _
-    (λ d. pick-keeps (Kept q) _ _ _ (λ b. kept-marked q i (newPlace 0 (p .ends) (p .store)) f l h (omega arith) e) (λ b. kept-freed q i f l h))
+    (λ d. pick-keeps (Kept q) _ _ _ (λ b. kept-marked q i (newPlace 0 (p .ends) false) f l h (omega arith) e) (λ b. kept-freed q i f l h))
     (λ d. kept-marked q i p f l h w e)
 
 -- What the youngest of those that wait takes; where none waits, the command under way.

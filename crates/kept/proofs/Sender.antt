@@ -16,13 +16,13 @@ use Rattle.next.specs.declared.Next.{Next}
 use Rattle.next.specs.declared.Next.the-variants.{GoOn, LoadWord, Starve, LoadEnd, StartWords, StartEnds, Stay}
 use Rattle.state.specs.Facts.{QueueFit}
 use Rattle.state.specs.Queue.{placeAt, lastBegun, waiting, wordsOf}
-use Rattle.queue.proofs.Laws.{busy-begun, speaking-begun}
 use Rattle.state.specs.Sending.{idle}
 use Rattle.state.specs.declared.Place.{Place}
 use Rattle.state.specs.declared.Queue.{Queue}
 use Rattle.state.specs.declared.Returned.{Returned}
 use Rattle.state.specs.declared.Sending.{Sending}
 use Rattle.base.specs.Truth.{none-left}
+use Rattle.queue.proofs.Laws.{busy-begun, speaking-begun}
 use Rattle.kept.proofs.Queue.{Kept, kept-same, kept-marked, kept-returned, words-begun, some-begun, fit-begun, lastOf, last-left, last-left-kept, last-left-begun, last-of-within}
 use Rattle.kept.specs.Rules.{SendRules}
 

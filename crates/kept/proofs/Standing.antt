@@ -1,27 +1,24 @@
 -- What the places mean, and what of it each operation on the queue keeps (01 The line, "it is freed when sent and read back"). Assumes nothing.
-use mathlib.Core.Path.{_≡_, refl, sym, _∙_, ap}
+use mathlib.Core.Path.{_≡_, refl, _∙_}
 use mathlib.Core.Bool.{Bool, true, false, not, _&&_, _||_}
-use mathlib.Core.List.{List, [], _∷_}
 use mathlib.Core.Logic.{_≢_}
 use Prim.Native.Nat.{ℕ, zero, suc, _+_, _-_, _≤_, _<_}
 use native.Mathlib.Omega.{arith}
 use lib.Dec.{ltb, eqb}
-use lib.ListN.{length, take, getD, set}
+use lib.ListN.{length}
 use lib.Seq.{getD-set-same, getD-set-other}
-use borrow.Author.Tests.{ltb-true, ltb-false, lt-ltb, le-ltb, eqb-true, eqb-false, ne-eqb, not-true}
-use Rattle.base.specs.Pick.{pick, pick-keeps, and-l, and-r, and-both}
+use borrow.Author.Tests.{ltb-true, ltb-false, lt-ltb, eqb-true, eqb-false, ne-eqb, not-true}
+use Rattle.base.specs.Pick.{and-l, and-r}
+use Rattle.base.specs.Truth.{never, none-left, and-none}
 use Rattle.rules.specs.Facts.{Standing}
 use Rattle.place_rules.specs.Places.{isFresh, waits, awaits}
 use Rattle.line_rules.specs.Line.{isUnread}
 use Rattle.state.specs.Facts.{QueueFit}
-use Rattle.state.specs.Queue.{noPlace, placeAt, withPlace, queued, begunOne, emptiedQueue, underWay, moved, freed, firstUnread, claimed, isDone, returned, lastBegun, speaks, speaking, placesOf, placesIn, inUse}
+use Rattle.state.specs.Queue.{noPlace, placeAt, withPlace, queued, begunOne, emptiedQueue, underWay, isDone, lastBegun, speaks, speaking, placesOf, placesIn, inUse}
 use Rattle.state.specs.declared.Place.{Place}
 use Rattle.state.specs.declared.Queue.{Queue}
-use Rattle.state.specs.declared.Returned.{Returned}
-use Rattle.base.specs.Truth.{never, none-left, and-none}
 use Rattle.queue.proofs.Laws.{busy-begun}
 use Rattle.kept.proofs.InUse.{same-places, in-use-put, in-use-queued}
-use Rattle.kept.proofs.Queue.{place-freed, moved-up, begun-freed, used-freed, eight-freed}
 
 -- 1. The three meanings of a place.
 
@@ -66,13 +63,6 @@ module _ (q : Queue) (i : ℕ) (p : Place) where
 
   pub same-place : i < length (q .places) → placeAt (withPlace q i p) i ≡ p
   same-place h = getD-set-same (q .places) i p noPlace h
-
-pub freed-below : (q : Queue) (i k : ℕ) → k < 8 → k < i → placeAt (freed q i) k ≡ placeAt q k
-unfolding moved pick
-freed-below q i k b h = place-freed q i k b ∙ rw (lt-ltb k i h)
-
-pub freed-above : (q : Queue) (i k : ℕ) → k < 8 → i ≤ k → placeAt (freed q i) k ≡ placeAt q (suc k)
-freed-above q i k b h = place-freed q i k b ∙ moved-up (q .places) i k h
 
 -- 3. What the operations on places that have begun keep: their meaning, the command under way, and the oldest place where it is unread.
 

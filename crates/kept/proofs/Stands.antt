@@ -1,37 +1,36 @@
 -- What places and sender mean together is kept by every deed of a frame and by the sender's half of a tick. Assumes nothing.
-use mathlib.Core.Path.{_≡_, refl, sym, _∙_}
-use mathlib.Core.Bool.{Bool, true, false, not, _&&_}
+use mathlib.Core.Path.{_≡_, refl}
+use mathlib.Core.Bool.{Bool, true, false, _&&_}
 use Prim.Native.Nat.{ℕ, _+_, _-_, _≤_, _<_}
 use native.Mathlib.Omega.{arith}
-use lib.Dec.{ltb, leb, eqb}
+use lib.Dec.{leb, eqb}
 use lib.ListN.{length}
 use borrow.Author.Tests.{ltb-true, leb-true, eqb-true, lt-ltb, le-leb, eq-eqb}
-use Rattle.base.specs.Pick.{pick, pick-keeps, and-l, and-r, and-both}
+use Rattle.base.specs.Pick.{pick, pick-keeps, and-l, and-r}
+use Rattle.base.specs.Truth.{and-none, and-first}
 use Rattle.line.specs.Format.{pieceLength}
-use Rattle.rules.specs.Facts.{Standing, SenderFit, allSome}
-use Rattle.place_rules.specs.Places.{isFresh, waits}
-use Rattle.line_rules.specs.Line.{endSound, pieceSound, isUnread}
+use Rattle.rules.specs.Facts.{Standing, SenderFit}
+use Rattle.place_rules.specs.Places.{waits}
+use Rattle.line_rules.specs.Line.{endSound, pieceSound}
 use Rattle.next.specs.Next.{choose}
 use Rattle.sender.specs.Sender.{wordSent, queueSent, senderAfter, advanced, placeSent, commandSent, wordsOver, finished, sentBy, tickSender}
 use Rattle.next.specs.declared.Next.{Next}
 use Rattle.next.specs.declared.Next.the-variants.{GoOn, LoadWord, Starve, LoadEnd, StartWords, StartEnds, Stay}
 use Rattle.state.specs.Facts.{QueueFit}
-use Rattle.state.specs.Queue.{placeAt, queued, begunOne, underWay, waiting, returned, lastBegun, speaks, speaking, placesOf, inUse}
+use Rattle.state.specs.Queue.{placeAt, queued, underWay, returned, lastBegun, speaks, speaking, placesOf, inUse}
 use Rattle.state.specs.Sending.{owing, idle, stored, done}
 use Rattle.state.specs.declared.Deed.{Deed}
 use Rattle.state.specs.declared.Deed.the-variants.{Leave, Enqueue, TakeBack, ClearAll, ResetAll}
-use Rattle.state.specs.declared.Place.{Place}
 use Rattle.state.specs.declared.Queue.{Queue}
 use Rattle.state.specs.declared.Returned.{Returned}
 use Rattle.state.specs.declared.Sender.{Sender}
 use Rattle.state.specs.declared.Sending.{Sending}
 use Rattle.state.specs.declared.Store.{Store}
-use Rattle.base.specs.Truth.{and-none, and-first}
 use Rattle.queue.proofs.Laws.{busy-begun, speaking-begun, has-record}
 use Rattle.kept.proofs.Freed.{sent-rests, words-spoken}
 use Rattle.kept.proofs.Pieces.{fit-steady, piece-rests, piece-goes-on, piece-loaded, piece-ended, piece-starved, piece-over, piece-spoken}
 use Rattle.kept.proofs.Sender.{over, Chosen, chosen, rules-advanced}
-use Rattle.kept.proofs.Standing.{Alike, Steady, Unread, silent-rest, speaks-busy, waits-unsent, waits-ends, steady-same, unread-same, unread-trans, marked-steady, marked-unread, queued-steady, queued-unread, begun-standing, begun-busy, begun-last, begun-unread, emptied-standing}
+use Rattle.kept.proofs.Standing.{Alike, Steady, Unread, silent-rest, speaks-busy, waits-unsent, waits-ends, steady-same, unread-same, unread-trans, marked-steady, marked-unread, queued-steady, begun-standing, begun-busy, begun-last, begun-unread, emptied-standing}
 use Rattle.kept.specs.Rules.{SendRules, Stands}
 
 -- 1. The deeds of a frame.

@@ -1,6 +1,6 @@
 -- The record rules of the sender and of the reader (01 Notes, note 2). docs/RECORD-RULES.md says what each is for. Assumes nothing.
 use mathlib.Core.Bool.{Bool, true, not, _&&_, _||_}
-use Prim.Native.Nat.{_+_, _-_}
+use Prim.Native.Nat.{_+_}
 use lib.Dec.{ltb, leb, eqb}
 use Rattle.base.specs.Pick.{pick}
 use Rattle.line.specs.Format.{groupLength, endLength}
@@ -17,8 +17,8 @@ use Rattle.state.specs.declared.Queue.{Queue}
 use Rattle.state.specs.declared.Reader.{Reader}
 use Rattle.state.specs.declared.Sender.{Sender}
 
--- "the words place [is sent] with the last 1 of its own END" (02 item 3): an END before that is their own, or note 13's, with none to follow; with no words,
--- or with these sent, it is an extra one, or the words' own that has just gone out
+-- The words' place is sent with the last 1 of its own END (02 item 3, docs/DECISIONS.md): an END before that is their own, or note 13's, with none to follow;
+-- with no words, or with these sent, it is an extra one, or the words' own that has just gone out
 unfoldable pub endSound : Sender → Place → Bool
 endSound s p = pick (speaks p) (eqb (s .ends) (p .ends) || eqb (s .ends) 0) (ltb (s .ends) (p .ends) || leb endLength (s .gone))
 
@@ -33,7 +33,7 @@ pieceSound EndPiece s busy p =
     ltb 0 (s .gone) && leb (s .gone) endLength && eqb (s .left) 0 && leb (s .ends) (pick busy (p .ends) 0)
     && (not busy || endSound s p)
 
--- "Each place is sent with its own last bit" (02 item 3, docs/DECISIONS.md): an idle sender has no command under way, and one with an END gone none
+-- Each place is sent with its own last bit (02 item 3, docs/DECISIONS.md): an idle sender has no command under way, and one with an END gone none
 -- whose words are not sent
 abbrev pub senderSound : Sender → Queue → Bool
 senderSound s q =

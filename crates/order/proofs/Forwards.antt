@@ -8,8 +8,6 @@ use lib.Dec.{ltb, leb}
 use borrow.Author.Tests.{leb-false, lt-ltb}
 use lib.ListN.{length, take, length-append}
 use lib.Seq.{take-all, take-append-seam}
-use Rattle.state.specs.declared.Queue.{Queue}
-use Rattle.queue.proofs.Laws.{has-places}
 use Rattle.base.specs.Pick.{pick-keeps, and-l}
 use Rattle.command.specs.declared.Command.the-variants.{Forward}
 use Rattle.state.specs.Rings.{ringAfter}
@@ -27,6 +25,8 @@ use Rattle.forwards.specs.declared.Granted.{Granted}
 use Rattle.bridge.specs.Runs.{faults}
 use Rattle.order.specs.Accepted.{Log, came, accepts, collects, joined, settle}
 use Rattle.base.specs.Truth.{never, or-none, and-last}
+use Rattle.state.specs.declared.Queue.{Queue}
+use Rattle.queue.proofs.Laws.{has-places}
 use Rattle.order.proofs.Account.{counted, concat, lengths, concat-snoc, lengths-snoc}
 use Rattle.order.proofs.Sending.{lessBy, moreBy}
 use Rattle.order.proofs.Frames.{Shut, Pending, Released, Open, InFrame, Kept, Goes}

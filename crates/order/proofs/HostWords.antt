@@ -6,7 +6,6 @@ use Prim.Native.Nat.{ℕ, _+_, _<_}
 use native.Mathlib.Omega.{arith}
 use lib.ListN.{length-append}
 use borrow.Author.Tests.{ltb-true}
-use Rattle.state.specs.declared.Queue.{Queue}
 use Rattle.base.specs.Pick.{pick, pick-keeps, and-l}
 use Rattle.command.specs.Layouts.{Layout}
 use Rattle.command.specs.declared.Command.{Command}
@@ -35,6 +34,7 @@ use Rattle.forwards.specs.declared.Wish.{Wish}
 use Rattle.order.specs.Accepted.{Log, came, accepts, collects, joined, settle}
 use Rattle.order.specs.Framed.{Framed}
 use Rattle.base.specs.Truth.{never, or-none}
+use Rattle.state.specs.declared.Queue.{Queue}
 use Rattle.order.proofs.Behind.{Shut, Open, InFrame, Stands, on, shut-more, framed-open, framed-shut}
 
 -- what is sent next stands behind what was dropped, or behind what was stored where nothing was dropped

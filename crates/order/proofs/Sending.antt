@@ -10,11 +10,10 @@ use native.Mathlib.Omega.{arith}
 use borrow.Author.Tests.{ltb-true, ltb-false, leb-true, eqb-true}
 use lib.ListN.{length, take, set, length-set}
 use lib.Dec.{leb}
-use Rattle.queue.proofs.Laws.{busy-begun, speaking-begun, has-record}
 use Rattle.base.specs.Pick.{pick-keeps, and-r, and-l}
 use Rattle.line.specs.Format.{pieceLength}
 use Rattle.state.specs.Rings.{oldest, written, ringAfter}
-use Rattle.state.specs.Queue.{placeAt, begunOne, waiting, underWay, emptiedQueue, placesOf, inUse}
+use Rattle.state.specs.Queue.{placeAt, begunOne, waiting, emptiedQueue, placesOf, inUse}
 use Rattle.state.specs.Sending.{owing, stored, done, idle}
 use Rattle.state.specs.declared.Deed.{Deed}
 use Rattle.state.specs.declared.Deed.the-variants.{Leave, Enqueue, TakeBack, ClearAll, ResetAll}
@@ -31,6 +30,7 @@ use Rattle.next.specs.declared.Next.the-variants.{GoOn, LoadWord, Starve, LoadE
 use Rattle.bridge.specs.Runs.{AllSent}
 use Rattle.order.specs.Accepted.{came}
 use Rattle.base.specs.Truth.{never}
+use Rattle.queue.proofs.Laws.{busy-begun, speaking-begun, has-record}
 use Rattle.order.proofs.Ring.{view, length-view, view-back, view-pop, view-push}
 use Rattle.order.proofs.Waiting.{QueueOk, Leaves, waiting-push, queue-push, waiting-begin, queue-begin, leaves-all, leaves-set, leaves-returned}
 use Rattle.order.proofs.Account.{counted, countsOf, counts-snoc, sum}

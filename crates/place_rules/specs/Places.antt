@@ -27,8 +27,8 @@ waits p = ltb 0 (p .words + p .ends) && isFresh p
 abbrev pub awaits : Place → Bool
 awaits p = p .sent && not (p .read) && ltb 0 (p .words) && eqb (p .ends) 0
 
--- command i by where it stands: waiting, behind the youngest that has begun, or that one. ENDs whose words' place is freed can only be that one:
--- "An END place that belongs to a words place can stand alone only while it is under way" (02 item 3)
+-- Command i by where it stands: waiting, older than the youngest that has begun, or that one. ENDs whose words' place is freed can only be that one: an END
+-- place of a pair stands with its words, or alone while it is under way (02 item 3, docs/RECORD-RULES.md)
 unfoldable pub roleSound : ℕ → ℕ → Place → Bool
 roleSound begun i p = pick (leb begun i) (waits p) (pick (ltb (i + 1) begun) (awaits p) (not (isDone p)))
 

@@ -131,7 +131,7 @@ module _ (q : Queue) (sum i : ℕ) (v : Tallied q sum i) where
   tallied e = let o : placesIn (rest q i) ≡ 0 = rw e in omega (arith, v .all)
 
 -- a words' place freed with its command, or alone
-pub to-ends-left : (q : Queue) (i : ℕ) (p o : Place) → 0 < p .ends → o ≡ newPlace 0 (p .ends) (p .store) → withPlace q i o ≡ freedOf q i p
+pub to-ends-left : (q : Queue) (i : ℕ) (p o : Place) → 0 < p .ends → o ≡ newPlace 0 (p .ends) false → withPlace q i o ≡ freedOf q i p
 to-ends-left q i p o h e = pick-true _ _ _ _ (lt-ltb 0 (p .ends) h) (rw e refl)
 
 pub to-all-freed : (q f : Queue) (i : ℕ) (p : Place) → p .ends ≤ 0 → f ≡ freed q i → f ≡ freedOf q i p

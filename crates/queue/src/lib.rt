@@ -153,7 +153,7 @@ fn freed_of(queue: Queue, i: u16, place: Place) -> Queue
 {
     if 0 < place.ends {
         let mut kept = queue;
-        kept.places[i as usize] = new_place(0, place.ends, place.store);
+        kept.places[i as usize] = new_place(0, place.ends, false);
         return kept;
     }
     freed(queue, i)

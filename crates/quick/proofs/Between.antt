@@ -1,5 +1,5 @@
 -- A tick that moves only the bit under way, or finds the line at rest: the definitions give the short way's record. Assumes nothing.
-use mathlib.Core.Path.{_≡_, refl, sym, _∙_}
+use mathlib.Core.Path.{_≡_, refl, sym}
 use mathlib.Core.Bool.{Bool, true, false, _&&_}
 use mathlib.Core.List.{List}
 use Prim.Native.Nat.{ℕ, _+_, _-_, _≤_, _<_}
@@ -27,13 +27,13 @@ use Rattle.state.specs.declared.Returned.{Returned}
 use Rattle.state.specs.declared.Sender.{Sender}
 use Rattle.state.specs.declared.Sending.{Sending}
 use Rattle.state.specs.declared.Store.the-variants.{Keep}
-use Rattle.next.specs.Next.{mayStart, choose, bitSent, isStarve, isStart}
+use Rattle.next.specs.Next.{mayStart, choose, bitSent}
 use Rattle.sender.specs.Sender.{senderAfter, advanced, finished, sentBy, tickSender}
 use Rattle.next.specs.declared.Next.{Next}
 use Rattle.next.specs.declared.Next.the-variants.{GoOn, Stay}
+use Rattle.rules.proofs.Facts.{piece-most}
 use Rattle.sender.specs.declared.Sent.{Sent}
 use Rattle.sender.proofs.Laws.{to-kept}
-use Rattle.rules.proofs.Facts.{piece-most}
 use Rattle.reader.specs.Reader.{withEar, takenBy, tickReader}
 use Rattle.plan.specs.Plan.{noAnswer, settled}
 use Rattle.ticks.specs.Ticks.{watched, starvedFlags, flagsSent, phaseAfter, controlTicked, tickNote, tickEnds, tickHears, ticked}

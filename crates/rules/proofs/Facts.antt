@@ -7,14 +7,13 @@ use native.Mathlib.Omega.{arith}
 use lib.ListN.{take, drop, getD}
 use lib.Seq.{getD-drop}
 use borrow.Author.Tests.{ltb-true, ltb-false, leb-true, leb-false, eqb-true, lt-ltb, le-ltb, le-leb, lt-leb, eq-eqb, not-true}
-use lib.Dec.{ltb, leb, eqb}
+use lib.Dec.{ltb, leb}
 use Rattle.base.specs.Pick.{pick, pick-keeps, and-l, and-r, and-both}
 use Rattle.line.specs.Format.{pieceLength}
 use Rattle.line.specs.declared.Piece.{Piece}
 use Rattle.line.specs.declared.Piece.the-variants.{Pause, StartBit, WordPiece, EndPiece}
 use Rattle.registers.specs.Registers.{table, resetRegs, powerUpFlags, powerUpControl, blocking, regsSound}
 use Rattle.state.specs.Queue.{noPlace, placeAt, waiting, wordsOf, underWay, isDone, lastBegun, speaking, placesIn}
-use Rattle.queue.proofs.Laws.{busy-begun}
 use Rattle.state.specs.Sending.{idle}
 use Rattle.state.specs.Frame.{mineOf, toCome, phaseSound}
 use Rattle.state.specs.Facts.{RingFit, QueueFit, SendFit, HostFit}
@@ -26,10 +25,11 @@ use Rattle.state.specs.declared.Sender.{Sender}
 use Rattle.state.specs.declared.Sending.{Sending}
 use Rattle.state.specs.declared.Phase.{Phase}
 use Rattle.state.specs.declared.Bridge.{Bridge}
+use Rattle.queue.proofs.Laws.{busy-begun}
 use Rattle.rules.specs.Sound.{ringSound, lastLeft, ledger, sound}
 use Rattle.place_rules.specs.Places.{placeSound, isFresh, waits, awaits, roleSound, slotSound, slotsBelow, queueSound}
 use Rattle.line_rules.specs.Line.{pieceSound, senderSound, earSound, marksSound, readerSound, endSound}
-use Rattle.frame_rules.specs.Frames.{otpSound, drdySound, controlSound, isUnmarked}
+use Rattle.frame_rules.specs.Frames.{otpSound, controlSound, isUnmarked}
 use Rattle.rules.specs.Facts.{Standing, SenderFit, Balanced, Sound, allSome}
 
 pub ring-fit : (size : ℕ) (r : Ring) → ringSound size r ≡ true → RingFit size r

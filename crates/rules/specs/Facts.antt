@@ -2,11 +2,11 @@
 use mathlib.Core.Path.{_≡_}
 use mathlib.Core.Bool.{Bool, true, false, _&&_}
 use mathlib.Core.List.{List, [], _∷_}
-use Prim.Native.Nat.{ℕ, suc, _+_, _-_, _≤_, _<_}
+use Prim.Native.Nat.{ℕ, suc, _+_, _≤_, _<_}
 use lib.Dec.{ltb, leb}
-use Rattle.line.specs.Format.{endLength}
 use Rattle.registers.specs.Registers.{regsSound, blocking}
 use Rattle.registers.specs.declared.Control.{Control}
+use Rattle.line.specs.Format.{endLength}
 use Rattle.state.specs.Rings.{txSize, rxSize}
 use Rattle.state.specs.Queue.{places, placeAt, inUse, lastBegun, speaking, underWay, waiting, wordsOf, isDone}
 use Rattle.state.specs.Frame.{mineOf, toCome, phaseSound}
@@ -23,8 +23,8 @@ use Rattle.line_rules.specs.Line.{pieceSound, earSound, marksSound}
 use Rattle.frame_rules.specs.Frames.{otpSound, drdySound, isUnmarked}
 use Rattle.rules.specs.Sound.{lastLeft}
 
--- the places in use are at most eight, and what each command's are: behind the youngest that has begun sent and not yet read, that one not done,
--- the others waiting
+-- the places in use are at most eight; each command older than the youngest that has begun is sent and not yet read, its ENDs gone, that one is not done, and
+-- the others wait
 pub record Standing (q : Queue) : Type 0 where
   pub older : (i : ℕ) → suc i < q .begun → awaits (placeAt q i) ≡ true
   pub youngest : 0 < q .begun → isDone (lastBegun q) ≡ false
@@ -42,7 +42,7 @@ pub record ControlRules (c : Control) (count : ℕ) (p : Phase) : Type 0 where
   pub drdy : drdySound (c .drdy) (c .regs .rxfflvl) count ≡ true
   pub marked : (blocking (c .flags) && isUnmarked p) ≡ false
 
--- the sum that keeps every word with its command, and what is still to come is for the youngest place
+-- the sum that keeps every word with its command, and what is still to come is for the youngest one
 pub record Balanced (s : Sending) (p : Phase) : Type 0 where
   pub sum : s .tx .count + toCome p ≡ s .sender .left + wordsOf (waiting (s .queue)) + mineOf p
   pub last : toCome p ≤ lastLeft s

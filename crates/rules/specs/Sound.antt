@@ -19,12 +19,12 @@ use Rattle.frame_rules.specs.Frames.{controlSound, flagsSound}
 abbrev pub ringSound : ℕ → Ring → Bool
 ringSound size r = ltb (r .head) size && leb (r .count) size
 
--- what the youngest place has still to take from TX
+-- what the youngest command has still to take from TX
 abbrev pub lastLeft : Sending → ℕ
 lastLeft s = pick (ltb (s .queue .begun) (s .queue .used)) (placeAt (s .queue) (s .queue .used - 1) .words) (s .sender .left)
 
--- The sum that keeps every word with its command: what TX holds, with what an open forward has still to bring for the place it queued, is
--- what the places have still to take, with the open forward's own words. What is still to come is for the youngest place.
+-- The sum that keeps every word with its command: what TX holds, with what an open forward has still to bring for the command it queued, is
+-- what the commands have still to take, with the open forward's own words. What is still to come is for the youngest command.
 abbrev pub ledger : Sending → Phase → Bool
 ledger s p =
     eqb (s .tx .count + toCome p) (s .sender .left + wordsOf (waiting (s .queue)) + mineOf p) && leb (toCome p) (lastLeft s)

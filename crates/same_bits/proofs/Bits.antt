@@ -1,6 +1,6 @@
 -- `SameBits`: what a tick sends is decided by TX, the sender and what waits, and no rule of places changes what waits. Assumes nothing.
 use mathlib.Core.Path.{_≡_, refl, sym, _∙_, ap, subst}
-use mathlib.Core.Bool.{Bool, true, false, not, _&&_}
+use mathlib.Core.Bool.{Bool, true, false, not}
 use mathlib.Core.List.{List, [], _∷_, _++_}
 use Prim.Native.Nat.{ℕ, _+_, _-_, _≤_, _<_}
 use native.Mathlib.Omega.{arith}
@@ -9,8 +9,8 @@ use lib.ListN.{length}
 use borrow.Author.Tests.{ltb-true, ltb-false, lt-ltb, le-ltb}
 use Rattle.base.specs.Pick.{pick, pick-keeps, and-l, and-r}
 use Rattle.state.specs.Facts.{QueueFit}
-use Rattle.state.specs.Queue.{placeAt, queued, begunOne, emptiedQueue, lastBegun, waiting, isDone}
-use Rattle.state.specs.Sending.{idle, owing, stored, done}
+use Rattle.state.specs.Queue.{placeAt, begunOne, emptiedQueue, lastBegun, waiting, isDone}
+use Rattle.state.specs.Sending.{idle, stored, done}
 use Rattle.state.specs.declared.Deed.{Deed}
 use Rattle.state.specs.declared.Deed.the-variants.{Leave, Enqueue, TakeBack, ClearAll, ResetAll}
 use Rattle.state.specs.declared.Place.{Place}
@@ -18,14 +18,14 @@ use Rattle.state.specs.declared.Queue.{Queue}
 use Rattle.state.specs.declared.Returned.{Returned}
 use Rattle.state.specs.declared.Sending.{Sending}
 use Rattle.state.specs.declared.Store.{Store}
-use Rattle.next.specs.Next.{choose, bitSent}
+use Rattle.next.specs.Next.{choose}
 use Rattle.next.specs.declared.Next.{Next}
 use Rattle.next.specs.declared.Next.the-variants.{GoOn, LoadWord, Starve, LoadEnd, StartWords, StartEnds, Stay}
-use Rattle.sender.specs.Sender.{queueSent, senderAfter, advanced, placeSent, finished, sentBy, tickSender}
-use Rattle.kept.proofs.Queue.{Kept, kept-same, kept-trans, kept-marked, kept-freed, waiting-queued, waiting-begun, waiting-emptied, waiting-none, fit-queued, eight-queued, fit-begun, fit-emptied}
+use Rattle.sender.specs.Sender.{queueSent, senderAfter, advanced, placeSent, sentBy, tickSender}
+use Rattle.kept.proofs.Queue.{Kept, kept-same, kept-marked, kept-freed, waiting-queued, waiting-begun, waiting-emptied, waiting-none, fit-queued, eight-queued, fit-begun, fit-emptied}
 use Rattle.kept.proofs.Reader.{tick-reader-keeps}
 use Rattle.kept.proofs.Sender.{Chosen, chosen, kept-sent, kept-finished}
-use Rattle.same_bits.specs.OnePlace.{returnedAsOne, finishedAsOne, sentAsOne, tickAsOne}
+use Rattle.same_bits.specs.OnePlace.{returnedAsOne, finishedAsOne, leftAsOne, bitAsOne}
 use Rattle.same_bits.specs.SameBits.{Fit, SameWait, Alike, Act, ticked, hosted, heard, Holds, withQueue, bitsNow, bitsBefore, Allowed, SameBits}
 
 -- 1. 01's rule of places keeps what waits.
@@ -161,15 +161,15 @@ module _ (s t : Sending) (a : Alike s t) (may : Bool) (w : ℕ) where
   kinds : Alike (advanced (choose s may) s w) (advanced (choose s may) t w)
   kinds = advanced-alike s t a (choose s may) (chosen s may) (subst (Chosen t) (sym choice-is) (chosen t may)) w
 
-  tick-alike : Alike (tickSender s may w .sending) (tickAsOne t may w .sending)
-  unfolding tickSender sentBy tickAsOne sentAsOne
+  tick-alike : Alike (tickSender s may w .sending) (leftAsOne t may w)
+  unfolding tickSender sentBy leftAsOne
   tick-alike =
       rw (← choice-is)
       (alike-requeued _ _ _ _ kinds (kept-finished (advanced (choose s may) s w) (kinds .fits .ranges) (kinds .fits .eight))
       (kept-finished-as-one (advanced (choose s may) t w) (kinds .others-fit .ranges) (kinds .others-fit .eight)))
 
-  bit-alike : tickSender s may w .sout ≡ tickAsOne t may w .sout
-  unfolding tickSender sentBy tickAsOne sentAsOne
+  bit-alike : tickSender s may w .sout ≡ bitAsOne t may w
+  unfolding tickSender sentBy bitAsOne
   bit-alike = rw (choice-is, a .sender)
 
 -- 4. A host word, and a run.

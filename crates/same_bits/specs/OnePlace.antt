@@ -10,10 +10,8 @@ use Rattle.state.specs.declared.Place.{Place}
 use Rattle.state.specs.declared.Queue.{Queue}
 use Rattle.state.specs.declared.Returned.{Returned}
 use Rattle.state.specs.declared.Sending.{Sending}
-use Rattle.next.specs.Next.{choose, bitSent, isStarve, isStart}
-use Rattle.next.specs.declared.Next.{Next}
+use Rattle.next.specs.Next.{choose, bitSent}
 use Rattle.sender.specs.Sender.{advanced, placeSent}
-use Rattle.sender.specs.declared.Sent.{Sent}
 
 -- "it is freed when sent and read back, or when sent if it has no words": the command's one place
 unfoldable pub returnedAsOne : Queue → ℕ → Place → Returned
@@ -25,18 +23,13 @@ finishedAsOne s =
     pick (idle (s .sender) && (ltb 0 (s .queue .begun) && not (lastBegun (s .queue) .sent)))
     (returnedAsOne (s .queue) (s .queue .begun - 1) (placeSent (lastBegun (s .queue)))) (record { queue = s .queue; differs = false })
 
-unfoldable pub sentAsOne : Next → Sending → ℕ → Sent
-sentAsOne n s w = record {
-  sending = record {
-    tx = advanced n s w .tx;
-    queue = finishedAsOne (advanced n s w) .queue;
-    sender = advanced n s w .sender;
-  };
-  sout = bitSent n (s .sender) w;
-  starved = isStarve n;
-  started = isStart n;
-  differs = finishedAsOne (advanced n s w) .differs;
+-- what such a tick leaves, and the bit that it sends
+unfoldable pub leftAsOne : Sending → Bool → ℕ → Sending
+leftAsOne s may w = record {
+  tx = advanced (choose s may) s w .tx;
+  queue = finishedAsOne (advanced (choose s may) s w) .queue;
+  sender = advanced (choose s may) s w .sender;
 }
 
-unfoldable pub tickAsOne : Sending → Bool → ℕ → Sent
-tickAsOne s may w = sentAsOne (choose s may) s w
+unfoldable pub bitAsOne : Sending → Bool → ℕ → Bool
+bitAsOne s may w = bitSent (choose s may) (s .sender) w

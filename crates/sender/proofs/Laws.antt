@@ -11,7 +11,6 @@ use Rattle.base.specs.Pick.{pick-told, pick-denied, pick-keeps, and-r}
 use Rattle.line.specs.declared.Piece.{Piece}
 use Rattle.state.specs.Facts.{QueueFit, SendFit}
 use Rattle.state.specs.Queue.{placeAt, withPlace, noPlace, speaking, underWay, returned}
-use Rattle.queue.proofs.Laws.{busy-begun, speaking-begun}
 use Rattle.state.specs.Sending.{idle}
 use Rattle.state.specs.Rings.{txSize, popped}
 use Rattle.state.specs.declared.Place.{Place}
@@ -20,6 +19,7 @@ use Rattle.state.specs.declared.Returned.{Returned}
 use Rattle.state.specs.declared.Ring.{Ring}
 use Rattle.state.specs.declared.Sender.{Sender}
 use Rattle.state.specs.declared.Sending.{Sending}
+use Rattle.queue.proofs.Laws.{busy-begun, speaking-begun}
 use Rattle.next.specs.Room.{Room}
 use Rattle.next.specs.Next.{choose, bitSent, isStarve, isStart}
 use Rattle.sender.specs.Sender.{wordSent, queueSent, senderAfter, advanced, placeSent, commandSent, finished, sentBy, tickSender}

@@ -4,8 +4,8 @@ use Prim.Native.Nat.{ℕ, _+_, _-_}
 use lib.Dec.{ltb, leb, eqb}
 use Rattle.base.specs.Pick.{pick}
 use Rattle.crc16.specs.Crc.{crcWord}
-use Rattle.line.specs.Format.{endLength}
 use Rattle.line.specs.declared.Piece.the-variants.{Pause, StartBit, WordPiece, EndPiece}
+use Rattle.line.specs.Format.{endLength}
 use Rattle.state.specs.Rings.{txSize, popped}
 use Rattle.state.specs.Queue.{placeAt, withPlace, begunOne, lastBegun, speaking, underWay, returned}
 use Rattle.state.specs.Sending.{idle}
@@ -102,7 +102,7 @@ commandSent p = record {
   «crc_read» = p .«crc_read»;
 }
 
--- "Each place is sent with its own last bit" (02 item 3, docs/DECISIONS.md): that of the ENDs with the last of all, when the sender is idle again;
+-- Each place is sent with its own last bit (02 item 3, docs/DECISIONS.md): that of the ENDs with the last of all, when the sender is idle again;
 -- that of the words with the last 1 of their own END, of 18 bits
 abbrev pub wordsOver : Sending → Bool
 wordsOver s = leb endLength (s .sender .gone) && speaking (s .queue)

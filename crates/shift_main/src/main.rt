@@ -44,7 +44,7 @@ fn told(end: Shifted) {
     number(end.taken as u64);
     number(end.ticks as u64);
     number(verdict::number(judged) as u64);
-    number(queue.used as u64);
+    number(queue::in_use(queue) as u64);
     io::print_decimal(STDOUT_FILENO, end.bridge.sending.tx.count as u64);
     io::write_all(STDOUT_FILENO, b"\n");
 }

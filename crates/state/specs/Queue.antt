@@ -1,11 +1,11 @@
 -- The queue of eight places (01 The line, "The queue has eight places (ours)"; 02 item 3). Assumes nothing.
-use mathlib.Core.Bool.{Bool, true, false, not, _&&_, _||_}
+use mathlib.Core.Bool.{Bool, false, not, _&&_, _||_}
 use mathlib.Core.List.{List, [], _∷_}
-use Prim.Native.Nat.{ℕ, suc, _+_, _-_}
-use lib.Dec.{ltb, leb, eqb}
+use Prim.Native.Nat.{ℕ, _+_, _-_}
+use lib.Dec.{ltb, eqb}
 use lib.ListN.{take, drop, getD, set}
 use Rattle.base.specs.Pick.{pick}
-use Rattle.crc16.specs.Crc.{start, crcWord}
+use Rattle.crc16.specs.Crc.{start}
 use Rattle.state.specs.declared.Place.{Place}
 use Rattle.state.specs.declared.Queue.{Queue}
 use Rattle.state.specs.declared.Returned.{Returned}
@@ -65,7 +65,7 @@ unfoldable pub wordsOf : List Place → ℕ
 wordsOf [] = 0
 wordsOf (p ∷ ps) = p .words + wordsOf ps
 
--- "Words and ENDs: two places; words only, ENDs only: one": a command with both has one for its words and one for its extra ENDs. 02 item 3
+-- "a forward with both takes two places", one for its words and one for its extra ENDs; with either alone it takes one. 02 item 3
 unfoldable pub placesOf : Place → ℕ
 placesOf p = pick (ltb 0 (p .words) && ltb 0 (p .ends)) 2 1
 
@@ -85,7 +85,7 @@ lacks q p = ltb (places - inUse q) (placesOf p)
 abbrev pub lastBegun : Queue → Place
 lastBegun q = placeAt q (q .begun - 1)
 
--- it has words, and the last 1 of their own END has not gone out
+-- it has words, and the last 1 of their own END has not gone out (docs/DECISIONS.md, 02 item 3)
 abbrev pub speaks : Place → Bool
 speaks p = ltb 0 (p .words) && not (p .sent)
 
@@ -96,7 +96,7 @@ speaking q = ltb 0 (q .begun) && speaks (lastBegun q)
 abbrev pub underWay : Queue → Bool
 underWay q = ltb 0 (q .begun) && (not (lastBegun q .sent) || ltb 0 (lastBegun q .ends))
 
--- Freed: the younger places move up by one.
+-- Freed: the younger commands move up by one.
 unfoldable pub moved : List Place → ℕ → ℕ → Place
 moved ps i k = pick (ltb k i) (getD ps k noPlace) (getD ps (k + 1) noPlace)
 
@@ -116,7 +116,7 @@ freed q i = record {
   begun = q .begun - 1;
 }
 
--- "the oldest place with words that has begun sending and is not yet read": its number, or the number of places begun where there is none
+-- "the oldest place with words that has begun sending and is not yet read": its number, or the number of commands begun where there is none
 unfoldable pub firstUnread : List Place → ℕ
 firstUnread [] = 0
 firstUnread (p ∷ ps) = pick (ltb 0 (p .words) && not (p .read)) 0 (firstUnread ps + 1)
@@ -132,11 +132,11 @@ isDone p = p .sent && (p .read || eqb (p .words) 0)
 abbrev pub differs : Place → Bool
 differs p = p .compare && not (p .damaged) && not (eqb (p .«crc_sent») (p .«crc_read»))
 
--- A place with new marks: put back, or freed where it is done; and whether its CRCs differ then. ENDs that still go out keep their own place, as
--- ENDs alone do: "the words place can be freed .. while the extra ENDs still go out". 02 item 3
+-- The words' place freed: ENDs that still go out keep their own, and are from then on as ENDs alone. 02 item 3, docs/DECISIONS.md
 abbrev pub freedOf : Queue → ℕ → Place → Queue
-freedOf q i p = pick (ltb 0 (p .ends)) (withPlace q i (newPlace 0 (p .ends) (p .store))) (freed q i)
+freedOf q i p = pick (ltb 0 (p .ends)) (withPlace q i (newPlace 0 (p .ends) false)) (freed q i)
 
+-- a place with new marks: put back, or freed where it is done; and whether its CRCs differ then
 unfoldable pub returned : Queue → ℕ → Place → Returned
 returned q i p =
     pick (isDone p) (record { queue = freedOf q i p; differs = differs p }) (record { queue = withPlace q i p; differs = false })
