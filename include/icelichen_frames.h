@@ -9,8 +9,8 @@
  *   FWD_WR_END_CRC, FWD_WR_END       0 to 127  -         -              0 to 31
  *   FWD_RD_END_CRC, FWD_RD_END       0 to 127  -         -              1 to 32
  *   DATA_RD_CRC, DATA_RD             -         -         1 to 256       none
- *   REG_WR_CRC, REG_WR               -         0 to 10   -              1 or more, address + words at most 11
- *   REG_RD_CRC, REG_RD               -         0 to 10   1 or more, address + count at most 11     none
+ *   REG_WR_CRC, REG_WR               -         0 to 11   -              1 or more, address + words at most 12
+ *   REG_RD_CRC, REG_RD               -         0 to 11   1 or more, address + count at most 12     none
  *   SOFTRESET_CRC                    -         -         -              none
  * A field that the command does not have (-) is 0; another number there is refused, since it would be lost. So is every number over 65535.
  * (A number of more than 32 bits C itself cuts: -Wconversion tells.)

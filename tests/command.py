@@ -1,5 +1,5 @@
 #!/usr/bin/env python3
-"""The command words by another hand: what `command_main` must print, made from 01's table (Frames) alone.
+"""The command words by another hand: what `command_main` must print, made from 01's table (Frames) and 02 item 4's address limit alone.
 
 Compares with crates/command_main/stdout byte for byte; --write writes that file. The digest is described in
 crates/command_main/src/main.rt.
@@ -35,7 +35,7 @@ def fields(name, word):
     if name == "SOFTRESET":
         return None if bits(word, 11, 0) else ("soft reset", {})
     address, count = bits(word, 3, 0), bits(word, 11, 8) + 1
-    if bits(word, 7, 4) or address + count > 11:
+    if bits(word, 7, 4) or address + count > 12:
         return None
     return {"REG_WR": "register write", "REG_RD": "register read"}[name], {"address": address, "count": count}
 

@@ -26,11 +26,11 @@ from refused import Refused  # noqa: E402
 
 CRATE = TESTS.parent / "crates/frames_main"
 TOOL = TESTS.parent / "tools/frame"
-MOST_TEXT, MOST_WORDS, MOST_SHOWN, REGISTERS = 1 << 20, 4096, 40, 11
+MOST_TEXT, MOST_WORDS, MOST_SHOWN, REGISTERS = 1 << 20, 4096, 40, 12
 SEED, TEXTS = 2, 300  # random texts
 LINES = 20_000  # of frames, more than a pipe holds
 
-# 01 Frames: number, fields, limits as they are told
+# 01 Frames (address limit: 02 item 4): number, fields, limits as they are told
 ROWS = {
     "FWD_WR_CRC": (2, [], "1 to 512 words"),
     "FWD_WR": (3, [], "1 to 4096 words"),
@@ -40,10 +40,10 @@ ROWS = {
     "FWD_RD_END": (7, ["ends"], "ends 0 to 127, 1 to 32 words"),
     "DATA_RD_CRC": (8, ["count"], "count 1 to 256, no words"),
     "DATA_RD": (9, ["count"], "count 1 to 256, no words"),
-    "REG_WR_CRC": (10, ["address"], "address 0 to 10, 1 to 11 words, address + words at most 11"),
-    "REG_WR": (11, ["address"], "address 0 to 10, 1 to 11 words, address + words at most 11"),
-    "REG_RD_CRC": (12, ["address", "count"], "address 0 to 10, count 1 to 11, address + count at most 11, no words"),
-    "REG_RD": (13, ["address", "count"], "address 0 to 10, count 1 to 11, address + count at most 11, no words"),
+    "REG_WR_CRC": (10, ["address"], "address 0 to 11, 1 to 12 words, address + words at most 12"),
+    "REG_WR": (11, ["address"], "address 0 to 11, 1 to 12 words, address + words at most 12"),
+    "REG_RD_CRC": (12, ["address", "count"], "address 0 to 11, count 1 to 12, address + count at most 12, no words"),
+    "REG_RD": (13, ["address", "count"], "address 0 to 11, count 1 to 12, address + count at most 12, no words"),
     "SOFTRESET_CRC": (14, [], "no words"),
 }
 
@@ -229,8 +229,8 @@ TEXT = [  # text, what standard error has of it; "" where all is right
     (b"answer FWD_WR 0403 0000", "line 1: FWD_WR: expected the CRC of the words before it, found `0000`: refusal 20\n"),
     (b"answer FWD_WR_END ends=128 0403 %04X" % crc([0x0403]),
      "line 1: FWD_WR_END ends=128: expected ends 0 to 127, 0 to 31 words, found an order outside these limits: refusal 20\n"),
-    (b"answer REG_WR address=11 0403 %04X" % crc([0x0403]), "line 1: REG_WR address=11: expected address 0 to 10,"),
-    (b"answer REG_RD address=11 count=0 " + ALL, "line 1: REG_RD address=11 count=0: expected address 0 to 10,"),
+    (b"answer REG_WR address=12 0403 %04X" % crc([0x0403]), "line 1: REG_WR address=12: expected address 0 to 11,"),
+    (b"answer REG_RD address=12 count=0 " + ALL, "line 1: REG_RD address=12 count=0: expected address 0 to 11,"),
     (b"SOFTRESET_CRC\nFWD\n\nFWD_WR xyz\r\nSOFTRESET_CRC\n# x\nDATA_RD", "line 2: "),
 ]
 
@@ -238,24 +238,24 @@ TEXT = [  # text, what standard error has of it; "" where all is right
 def at_limits():
     """Lines just inside and just outside each limit of each row."""
     for name, (number, fields, _) in ROWS.items():
-        edges = {"ends": (0, 127, 128, 65535), "address": (0, 1, 10, 11, 65535), "count": (0, 1, 2, 10, 11, 12, 256, 257, 65535)}
+        edges = {"ends": (0, 127, 128, 65535), "address": (0, 1, 10, 11, 12, 65535), "count": (0, 1, 2, 10, 11, 12, 13, 256, 257, 65535)}
         told = [""]
         for field in fields:
             told = ["%s %s=%d" % (before, field, value) for before in told for value in edges[field]]
-        counts = (0, 1, 2, 511, 512, 513, 4095, 4096) if number in (2, 3) else (0, 1, 2, 10, 11, 12, 31, 32, 33)
+        counts = (0, 1, 2, 511, 512, 513, 4095, 4096) if number in (2, 3) else (0, 1, 2, 10, 11, 12, 13, 31, 32, 33)
         for fields_told in told:
             yield from (("%s%s %s" % (name, fields_told, some(n))).encode() for n in counts)
-            yield from (("answer %s%s %s" % (name, fields_told, hexed([*range(n), crc(range(n))]))).encode() for n in (0, 1, 2, 11, 256, 257))
+            yield from (("answer %s%s %s" % (name, fields_told, hexed([*range(n), crc(range(n))]))).encode() for n in (0, 1, 2, 12, 256, 257))
 
 
 def random_line(draw):
     name = draw.choice([*ROWS, *ROWS, *ROWS, "FWD_RD", "reg_wr", "answer"])
     row = ROWS.get(name, (0, [], ""))
-    most = {"ends": 130, "address": 12, "count": draw.choice([12, 258])}
+    most = {"ends": 130, "address": 13, "count": draw.choice([13, 258])}
     field = {one: draw.randrange(most[one]) for one in row[1] if draw.random() < 0.95}
     items = ["%s=%d" % pair for pair in field.items()]
     draw.shuffle(items)
-    items += ["%04x" % draw.randrange(65536) for _ in range(draw.choice([0, 1, 2, 3, 11, 31, 32, 33]) if row[0] not in (8, 9, 12, 13, 14) else 0)]
+    items += ["%04x" % draw.randrange(65536) for _ in range(draw.choice([0, 1, 2, 3, 12, 31, 32, 33]) if row[0] not in (8, 9, 12, 13, 14) else 0)]
     if draw.random() < 0.3:
         n = field.get("count", 1)
         words = [draw.randrange(65536) for _ in range(n)]

@@ -78,6 +78,9 @@ CALLS = [
     (STATUS, ["0400", "D1CC"], b"", 1, None, ""),
     (STATUS, ["ffff"], b"", 1, None, ""),
     (STATUS, ["4401", "0010", "0000", "0000"], b"", 0, None, ""),
+    (STATUS, ["4401", "0008", "0000", "0000", "0005", "163E"], b"", 1, None, ""),
+    (STATUS, ["4401", "0008", "0000", "0000", "0005"], b"", 1, None, ""),
+    (STATUS, 7 * ["0400"], b"", 2, b"", "one to five words and their CRC, not 7; see tools/status --help"),
     (BOARD, [HEAVY], b"", 0, FORTY, ""),
     (BOARD, [], HEAVY.read_bytes(), 0, FORTY, ""),
     (BOARD, ["-"], b"\xef\xbb\xbf" + HEAVY.read_bytes().replace(b"\n", b"\r\n"), 0, FORTY, ""),
@@ -90,7 +93,7 @@ CALLS = [
     (BOARD, ["nowhere"], b"", 1, b"", "nowhere: .*No such file"),
     (BOARD, ["a", "b"], b"", 2, b"", "one FILE, not 2; see tools/board --help"),
     (BOARD, ["-x"], b"", 2, b"", "no option -x"),
-    (STATUS, [], b"", 2, b"", "one to four words and their CRC, not 0; see tools/status --help"),
+    (STATUS, [], b"", 2, b"", "one to five words and their CRC, not 0; see tools/status --help"),
     (STATUS, ["440"], b"", 2, b"", "expected four hex digits, found `440`"),
 ]
 # lines of frames, by name and in hex: the script, or a pattern of what is said
@@ -117,8 +120,8 @@ LINES_OF_FRAMES = [
     (b"badframe 200 AAF0", b"", "or words of four hex digits, found `200`$"),
     (b"crc", b"", "or words of four hex digits, found nothing$"),
     (b"power good\nframe FWD_WR_END_CRC AAF0", b"", "^standard input:2: expected ends=0 to 127 for FWD_WR_END_CRC, found none$"),
-    (b"frame REG_RD_CRC address=7", b"", "^standard input:1: expected count=1 to 4 for REG_RD_CRC at address 7, found none$"),
-    (b"frame REG_RD_CRC count=1", b"", "expected address=0 to 10 for REG_RD_CRC, found none$"),
+    (b"frame REG_RD_CRC address=7", b"", "^standard input:1: expected count=1 to 5 for REG_RD_CRC at address 7, found none$"),
+    (b"frame REG_RD_CRC count=1", b"", "expected address=0 to 11 for REG_RD_CRC, found none$"),
     (b"frame FWD_WR_END_CRC ends=1 ends=2 AAF0", b"", "expected ends= once, found `ends=1 ends=2`$"),
     (b"frame FWD_WR_CRC ends=2 AAF0", b"", "expected no field for FWD_WR_CRC, found `ends=2`$"),
     (b"frame REG_WR_CRC address=7 count=1 8000", b"", "expected no field but address= for REG_WR_CRC, found `count=1`$"),
@@ -128,9 +131,9 @@ LINES_OF_FRAMES = [
     (b"frame FWD_WR_END ends=two", b"", "expected ends=0 to 127 for FWD_WR_END, found `ends=two`$"),
     (b"frame DATA_RD count=0", b"", "expected count=1 to 256 for DATA_RD, found `count=0`$"),
     (b"frame DATA_RD count=257", b"", "expected count=1 to 256 for DATA_RD, found `count=257`$"),
-    (b"frame REG_WR address=11 0000", b"", "expected address=0 to 10 for REG_WR, found `address=11`$"),
-    (b"frame REG_RD address=7 count=5", b"", "expected count=1 to 4 for REG_RD at address 7, found `count=5`$"),
-    (b"frame REG_WR address=10 0000 0000", b"", "expected 1 word for REG_WR at address 10, found 2$"),
+    (b"frame REG_WR address=12 0000", b"", "expected address=0 to 11 for REG_WR, found `address=12`$"),
+    (b"frame REG_RD address=7 count=6", b"", "expected count=1 to 5 for REG_RD at address 7, found `count=6`$"),
+    (b"frame REG_WR address=11 0000 0000", b"", "expected 1 word for REG_WR at address 11, found 2$"),
     (b"frame FWD_WR_CRC" + 513 * b" AAF0", b"", "expected 1 to 512 words for FWD_WR_CRC, found 513$"),
     (b"frame FWD_WR" + 4097 * b" AAF0", b"", "expected 1 to 4096 words for FWD_WR, found 4097$"),
     (b"badframe FWD_WR_END ends=0" + 32 * b" AAF0", b"", "expected 0 to 31 words for FWD_WR_END, found 32$"),
@@ -206,8 +209,30 @@ def statuses():
             yield "docs/CREW.md: wrong CRC word: %s" % frame
 
 
+NUMBERS = [  # IFST, BADWORD, what is said of the number
+    (0x0008, 0, "came on word 0 of its command, the head word"),
+    (0x0008, 1, "came on word 1 .* it is word 0 of driver 0,"),
+    (0x0008, 3, "came on word 3 .* it is word 2 of driver 0,"),
+    (0x0008, 4, "came on word 4 .* it is word 0 of driver 1,"),
+    (0x0008, 0xFFFE, "came on word 65534 .* it is word 1 of driver 21844,"),
+    (0x0008, 0xFFFF, "came on word 65535 of its command or a later one"),
+    (0x0000, 0, "CHECK_BIT is down"),
+    (0x0000, 7, "the words are not of one reading"),
+]
+
+
+def bad_words():
+    """The number of a bad word is told with its driver, and only beside CHECK_BIT."""
+    for ifst, number, said in NUMBERS:
+        words = [0x4401 if ifst else 0x0400, ifst, 0, 0, number]
+        told = subprocess.check_output([STATUS, *("%04X" % word for word in (*words, crc16(words)))]).decode()
+        if not re.search(r"^BADWORD %04X\n  .*%s" % (number, said), told, re.M):
+            yield "status: BADWORD %04X with IFST %04X is told as %r" % (number, ifst, told[-150:])
+
+
 def wrong(work):
     yield from statuses()
+    yield from bad_words()
     for tool, arguments, given, status, stdout, stderr in CALLS:
         for what in otherwise(called(tool, arguments, given, work), status, stdout, stderr):
             yield "%s %s: %s" % (tool.name, " ".join(map(str, arguments)) or repr(given[:20]), what)

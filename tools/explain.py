@@ -21,8 +21,9 @@ TABLE = pathlib.Path(__file__).resolve().parent.parent / "crates/refusals/stdin"
 POWER, WORD, RELEASE, TICK, CLOCK = range(5)
 FILLER = 0xFFFF
 PLACES, END_BITS, WORD_BITS = 8, 18, 16
-REGISTERS = ("DEVID", "SPICTRL", "CCSICTRL", "TXFFLVL", "RXFFLVL", "DEVCTRL", "DIAGMASK", "STATUS", "IFST", "TXFFST", "RXFFST")
-READ_ONLY = ("DEVID", "IFST", "TXFFST", "RXFFST")
+REGISTERS = ("DEVID", "SPICTRL", "CCSICTRL", "TXFFLVL", "RXFFLVL", "DEVCTRL", "DIAGMASK", "STATUS", "IFST", "TXFFST", "RXFFST",
+             "BADWORD")
+READ_ONLY = ("DEVID", "IFST", "TXFFST", "RXFFST", "BADWORD")
 HELD = {"SPICTRL": "spictrl", "CCSICTRL": "ccsictrl", "TXFFLVL": "txfflvl", "RXFFLVL": "rxfflvl", "DIAGMASK": "diagmask"}  # by their columns
 FULL = {"TXFFST": (0x1FF, "TX"), "RXFFST": (0xFF, "RX")}  # a count that can also mean one more
 BITS = {
@@ -132,6 +133,11 @@ def value_of(name, value):
     return "%s %04X%s" % (name, value, " (%s)" % ", ".join(said) if said else "")
 
 
+def bad_word(value, state):
+    """Register 11: 0 is a word's number only where CHECK_BIT is up."""
+    return "BADWORD %04X (%s)" % (value, "the bad check bit came on word %d" % value if state["check_bit"] else "CHECK_BIT is down")
+
+
 def opened(event, before, after):
     if event.value == FILLER:
         yield "filler, outside a frame"
@@ -186,7 +192,8 @@ def answered(event, before, after):
     elif reply == NUMBER["status"]:
         yield "answer: " + value_of("STATUS", event.sdo)
     elif reply == NUMBER["registers"]:
-        yield "answer: " + value_of(REGISTERS[before["open.address"]], event.sdo)
+        name = REGISTERS[before["open.address"]]
+        yield "answer: " + (bad_word(event.sdo, before) if name == "BADWORD" else value_of(name, event.sdo))
     elif event.note != 15:
         yield "answer: word %04X taken from RX, %s left there" % (event.sdo, after["rx.count"] or "none")
 
@@ -319,7 +326,8 @@ def read(event, before, after):
         stored = ", stored, %s in RX" % many(after["rx.count"], "word") if more else unstored(event, before)
         yield "SIN: word %04X read%s" % (before["reader.value"], stored)
     elif is_in(before, "reader.ear", "group") and is_in(after, "reader.ear", "lost"):
-        yield "SIN: wrong check bit, dropped from here to END"
+        first = "" if not before["check_bit"] else "; BADWORD stays %d" % after["bad_word"]
+        yield "SIN: wrong check bit on word %d, dropped from here to END%s" % (before["reader.number"], first)
     elif is_in(after, "reader.ear", "quiet") and not is_in(before, "reader.ear", "quiet"):
         yield "SIN: END"
 

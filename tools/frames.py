@@ -14,7 +14,7 @@ import re
 from refused import refuse
 
 START = 0xFFFF
-ADDRESSES = 11  # address + count, or address + words, at most
+ADDRESSES = 12  # address + count, or address + words, at most: 02 item 4
 Row = collections.namedtuple("Row", "number parts")
 Part = collections.namedtuple("Part", "least most place less")  # a value's limits; value - less stands in the command word from bit `place` on
 
@@ -62,7 +62,7 @@ def fields_of(name):
 
 
 def limits(name, part, values):
-    """From what to what, and of what: 01's table, and address + count at most eleven."""
+    """From what to what, and of what: 01's table, and address + count at most twelve."""
     least, most = ROWS[name].parts[part][:2]
     if part == "address" or "address" not in values:
         return least, most, name

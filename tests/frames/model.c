@@ -1,7 +1,7 @@
 /*
  * model.c - the host frames of document 02, item 1, as an independent program.
  *
- * The three functions of include/icelichen_frames.h. Written from 01 "Frames", 02 item 1, what was decided about both, and the
+ * The three functions of include/icelichen_frames.h. Written from 01 "Frames", 02 items 1 and 4, what was decided about them, and the
  * header's text; not from the library. tests/frames/trial.c is linked once with this file and once with the library, and both
  * must print the same. Plain on purpose: the CRC goes bit by bit, no table.
  */
@@ -9,7 +9,7 @@
 
 #include <stdbool.h>
 
-enum { MOST_ENDS = 127, MOST_READ = 256, REGISTERS = 11 };
+enum { MOST_ENDS = 127, MOST_READ = 256, REGISTERS = 12 };         /* 02 item 4: 12, not 11 */
 enum { MOST_FWD_WR_CRC = 512, MOST_FWD_WR = 4096, MOST_FWD_WR_END = 31, MOST_FWD_RD_END = 32 };
 enum { STATUS_ANSWER = 2 };
 
@@ -36,7 +36,7 @@ static bool is_read(uint32_t command)
 }
 
 /* 01 "Frames", the table: are the fields such that some number of data words makes it an order? The header: a field that the
- * command does not have is 0. REG_WR needs at least one word, so its address is at most 10. */
+ * command does not have is 0. REG_WR needs at least one word, so its address is at most 11. */
 static bool fields_fit(uint32_t command, uint32_t ends, uint32_t address, uint32_t count)
 {
     switch (command) {

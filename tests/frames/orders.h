@@ -1,4 +1,4 @@
-/* Every order that 01's table allows ("Frames"), for the programs that go through them. */
+/* Every order that 01's table allows ("Frames"), with the address limit of 02 item 4, for the programs that go through them. */
 #ifndef ORDERS_H
 #define ORDERS_H
 
@@ -8,7 +8,7 @@
 
 #define CELLS_OF(array) (sizeof(array) / sizeof((array)[0]))
 
-enum { REGISTERS = 11 };
+enum { REGISTERS = 12 };
 
 struct order {
     uint32_t command, ends, address, count;
@@ -20,14 +20,14 @@ static const struct row {
     uint16_t command;
     size_t least, most;
     uint16_t ends, reads;               /* most of each */
-    bool registers;                     /* address + count (or words) at most 11 */
+    bool registers;                     /* address + count (or words) at most 12 */
 } ROWS[] = {
     {"FWD_WR_CRC", 2, 1, 512, 0, 0, false},      {"FWD_WR", 3, 1, 4096, 0, 0, false},
     {"FWD_WR_END_CRC", 4, 0, 31, 127, 0, false}, {"FWD_WR_END", 5, 0, 31, 127, 0, false},
     {"FWD_RD_END_CRC", 6, 1, 32, 127, 0, false}, {"FWD_RD_END", 7, 1, 32, 127, 0, false},
     {"DATA_RD_CRC", 8, 0, 0, 0, 256, false},     {"DATA_RD", 9, 0, 0, 0, 256, false},
-    {"REG_WR_CRC", 10, 1, 11, 0, 0, true},       {"REG_WR", 11, 1, 11, 0, 0, true},
-    {"REG_RD_CRC", 12, 0, 0, 0, 11, true},       {"REG_RD", 13, 0, 0, 0, 11, true},
+    {"REG_WR_CRC", 10, 1, 12, 0, 0, true},       {"REG_WR", 11, 1, 12, 0, 0, true},
+    {"REG_RD_CRC", 12, 0, 0, 0, 12, true},       {"REG_RD", 13, 0, 0, 0, 12, true},
     {"SOFTRESET_CRC", 14, 0, 0, 0, 0, false},
 };
 

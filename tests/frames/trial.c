@@ -4,7 +4,7 @@
  *   gcc -std=c11 -Wall -Wextra -Werror -O2 -Iinclude tests/frames/trial.c tests/frames/model.c
  *
  * It calls the three functions only through include/icelichen_frames.h. Linked with tests/frames/model.c and with the library it
- * must print the same, byte for byte. Written from 01 "Frames", 02 item 1, what was decided about both, and the header's text.
+ * must print the same, byte for byte. Written from 01 "Frames", 02 items 1 and 4, what was decided about them, and the header's text.
  *
  *   grid     orders within and just outside 01's limits, four lengths of buffer each, with guard cells around the buffer
  *   all      every command word that 01's table allows, each once
@@ -36,12 +36,12 @@ struct tally {
     uint32_t digest;
 };
 
-/* The grid. 10, 11, 12 words are the edge of REG_WR; 65,536 and 65,537 would be 0 and 1 in 16 bits, 65,538 would be FWD_WR_CRC. */
+/* The grid. 11, 12, 13 words are the edge of REG_WR (02 item 4); 65,536 and 65,537 would be 0 and 1 in 16 bits, 65,538 would be FWD_WR_CRC. */
 static const uint32_t COMMANDS[] = {0, 1, 2, 3, 4, 5, 6, 7, 8, 9, 10, 11, 12, 13, 14, 15, 16, 17, 18, 19, 20, 65535, 65538, 65548};
 static const uint32_t ENDS[] = {0, 1, 2, 63, 126, 127, 128, 2047, 65535, 65536};
 static const uint32_t ADDRESSES[] = {0, 1, 2, 3, 4, 5, 6, 7, 8, 9, 10, 11, 12, 13, 16, 65535, 65536, 4294967295};
-static const uint32_t COUNTS[] = {0, 1, 2, 10, 11, 12, 255, 256, 257, 65535, 65536, 65537};
-static const size_t NUMBERS[] = {0, 1, 2, 10, 11, 12, 30, 31, 32, 33, 511, 512, 513, 4095, 4096, 4097, 65536, 65537, 70000};
+static const uint32_t COUNTS[] = {0, 1, 2, 11, 12, 13, 255, 256, 257, 65535, 65536, 65537};
+static const size_t NUMBERS[] = {0, 1, 2, 11, 12, 13, 30, 31, 32, 33, 511, 512, 513, 4095, 4096, 4097, 65536, 65537, 70000};
 
 static uint16_t *pool;                  /* data words; a page that cannot be read lies behind them */
 static uint16_t fresh[ARENA];           /* the pattern before a call */
@@ -379,7 +379,7 @@ static void turned_answers(const struct order *o, size_t due)
  * word that is right for them, which are STATUS where data is due and the other way round too. */
 static void wrong_lengths(const struct row *row, const struct order *o, size_t due)
 {
-    static const size_t sealed[] = {1, 2, 3, 4, 5, 11, 12, 13, 256, 257, 258};
+    static const size_t sealed[] = {1, 2, 3, 4, 5, 12, 13, 14, 256, 257, 258};
     struct tally t = {0, 0, NO_WORDS};
     uint16_t *answer = lay_right(due);
     unsigned taken = ask(o, answer, due - 1, &t) + ask(o, answer + 1, due - 1, &t);
@@ -403,7 +403,7 @@ static void wrong_lengths(const struct row *row, const struct order *o, size_t d
 static void other_kind(const struct order *o)
 {
     struct tally t = {0, 0, NO_WORDS};
-    for (size_t length = 2; length <= 12; length++)
+    for (size_t length = 2; length <= 13; length++)
         ask(o, lay_right(length), length, &t);
     tell("kind", &t);
 }

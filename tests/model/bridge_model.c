@@ -1,5 +1,5 @@
 /*
- * bridge_model.c - an independent model of the bridge of document 01, with items 2 and 3 of document 02.
+ * bridge_model.c - an independent model of the bridge of document 01, with items 2, 3 and 4 of document 02.
  *
  *   bridge_model [-c | -i] [file.cwb]
  *
@@ -17,8 +17,9 @@
 #include <string.h>
 
 enum { TX_SIZE = 512, RX_SIZE = 256, PLACES = 8, END_BITS = 18, GROUP_BITS = 17 };
-enum { REGISTERS = 11, SIN_LIMIT_MS = 5 };
+enum { REGISTERS = 12, SIN_LIMIT_MS = 5 };
 enum { START_LEVEL = 63 };              /* 02 item 2: TXFFLVL at power-up */
+enum { LAST_NUMBER = 65535 };           /* 02 item 4: where the number of a word stops */
 enum device_state { NORMAL = 0, INIT = 1, FAILSAFE = 3 };
 
 /* 01 "Notes": the numbers of those this program can meet (1 and 2 never are). */
@@ -28,9 +29,9 @@ enum {
     TX_UNDERFLOW = 13, RX_OVERFLOW = 14, RX_UNDERFLOW = 15, NOTES = 16
 };
 
-/* 01 "Registers": addresses. */
+/* 01 "Registers": addresses; the last is of 02 item 4. */
 enum {
-    DEVID, SPICTRL, CCSICTRL, TXFFLVL, RXFFLVL, DEVCTRL, DIAGMASK, STATUS, IFST, TXFFST, RXFFST
+    DEVID, SPICTRL, CCSICTRL, TXFFLVL, RXFFLVL, DEVCTRL, DIAGMASK, STATUS, IFST, TXFFST, RXFFST, BADWORD
 };
 
 struct ring {
@@ -73,6 +74,7 @@ struct reader {
     unsigned bit, run;
     uint32_t group;
     uint16_t crc;
+    uint16_t words;                     /* 02 item 4: with a right check bit so far, and so the number of the next */
     bool storing, stored, check_error;
 };
 
@@ -95,6 +97,7 @@ struct bridge {
     enum device_state state;
     struct flags flag;
     uint16_t spictrl, ccsictrl, tx_level, rx_level, diagmask;
+    uint16_t check_word;                /* 02 item 4: of the error that raised CHECK_BIT; 0 while that is down */
     bool drdy;
     struct ring tx, rx;
     struct place place[PLACES];
@@ -214,16 +217,17 @@ static uint16_t read_register(const struct bridge *b, unsigned address)
 {
     const struct flags *f = &b->flag;
     switch (address) {
-    case SPICTRL:  return b->spictrl;
-    case CCSICTRL: return b->ccsictrl;
-    case TXFFLVL:  return b->tx_level;
-    case RXFFLVL:  return b->rx_level;
-    case DIAGMASK: return b->diagmask;
-    case STATUS:   return status_word(b);
-    case IFST:     return interface_word(f);
-    case TXFFST:   return fifo_word(f->tx_ovf, f->tx_uvf, b->tx.count, 511);
-    case RXFFST:   return fifo_word(f->rx_ovf, f->rx_uvf, b->rx.count, 255);
-    default:       return 0;            /* DEVID, DEVCTRL */
+    case SPICTRL:   return b->spictrl;
+    case CCSICTRL:  return b->ccsictrl;
+    case TXFFLVL:   return b->tx_level;
+    case RXFFLVL:   return b->rx_level;
+    case DIAGMASK:  return b->diagmask;
+    case STATUS:    return status_word(b);
+    case IFST:      return interface_word(f);
+    case TXFFST:    return fifo_word(f->tx_ovf, f->tx_uvf, b->tx.count, 511);
+    case RXFFST:    return fifo_word(f->rx_ovf, f->rx_uvf, b->rx.count, 255);
+    case BADWORD: return b->check_word;
+    default:        return 0;           /* DEVID, DEVCTRL */
     }
 }
 
@@ -294,12 +298,13 @@ static void write_devctrl(struct bridge *b, uint16_t value)
         b->state = NORMAL;
 }
 
-/* Clearing clears all but OTP and leaves the state. */
+/* Clearing clears all but OTP and leaves the state. 02 item 4: register 11 reads 0 when the flag is down. */
 static void clear_flags(struct bridge *b)
 {
     bool otp = b->flag.otp;
     memset(&b->flag, 0, sizeof b->flag);
     b->flag.otp = otp;
+    b->check_word = 0;
 }
 
 static int write_register(struct bridge *b, unsigned address, uint16_t value)
@@ -330,7 +335,7 @@ static int write_register(struct bridge *b, unsigned address, uint16_t value)
         if (value & 0x8000)
             clear_flags(b);
         break;
-    default:                            /* DEVID, IFST, TXFFST, RXFFST: not writable */
+    default:                            /* DEVID, IFST, TXFFST, RXFFST, BADWORD: not writable */
         break;
     }
     return DONE;
@@ -511,8 +516,11 @@ static void reader_start(struct bridge *b)
         r->storing = b->place[r->place].store && !b->flag.rx_ovf && !b->flag.rx_uvf;
 }
 
+/* 02 item 4: the first number since the flags were cleared is kept, so an error with the flag up leaves it. */
 static void reader_check_error(struct bridge *b)
 {
+    if (!b->flag.check_bit)
+        b->check_word = b->reader.words;
     b->flag.check_bit = true;
     b->reader.check_error = true;
     b->reader.mode = READ_DISCARD;
@@ -534,11 +542,13 @@ static void reader_end(struct bridge *b)
     }
 }
 
-/* A word with a right check bit. */
+/* A word with a right check bit. 02 item 4: counted in every command, stored or not, with a place or without. */
 static int reader_word(struct bridge *b, uint16_t word)
 {
     struct reader *r = &b->reader;
     r->crc = crc_step(r->crc, word);
+    if (r->words < LAST_NUMBER)
+        r->words++;
     if (!r->storing)
         return DONE;
     if (b->rx.count == RX_SIZE) {
@@ -634,7 +644,7 @@ static bool decode(uint16_t word, struct command *c)
             c->data = count;
         else
             c->reads = count;
-        return (low & 0xF0) == 0 && c->address + count <= REGISTERS;
+        return (low & 0xF0) == 0 && c->address + count <= REGISTERS;    /* 02 item 4: 12, not 11 */
     case 14:
         return low == 0;
     default:

@@ -143,7 +143,7 @@ def check_crc():
 
 
 def accepted(word):
-    """01's layout table, written down apart from the model."""
+    """01's layout table with the address limit of 02 item 4, written down apart from the model."""
     number, low = word >> 12, word & 0xFFF
     if number in (3, 4, 5, 6, 7):
         return True
@@ -152,7 +152,7 @@ def accepted(word):
     if number in (8, 9):
         return low < 256
     if number in (10, 11, 12, 13):
-        return low // 16 % 16 == 0 and low % 16 + low // 256 + 1 <= 11
+        return low // 16 % 16 == 0 and low % 16 + low // 256 + 1 <= 12
     return word in (0xE000, 0xFFFF)
 
 
@@ -163,8 +163,12 @@ def check_words():
         s.power(1)
         first[word] = s.word(word)
     s.run()
-    for word, want in ((0x21FF, 0), (0x2200, 3), (0xA00A, 0), (0xA10A, 3), (0xF000, 3)):
+    for word, want in ((0x21FF, 0), (0x2200, 3), (0xA10A, 0), (0xA10B, 3), (0xF000, 3)):
         expect(f"word {word:04X}", s.note(first[word]), want)
+    # 02 item 4, address + count at most 12: 10 + 2, 11 + 1, 0 + 12; 11 + 2, 12 + 1, 0 + 13 are over it
+    for low, want in ((0x10A, 0), (0x00B, 0), (0xB00, 0), (0x10B, 3), (0x00C, 3), (0xC00, 3)):
+        for number in (10, 11, 12, 13):
+            expect(f"limit, word {number << 12 | low:04X}", s.note(first[number << 12 | low]), want)
     wrong = [w for w, e in first.items() if s.note(e) != (0 if accepted(w) else 3)]
     expect("all command words", wrong, [])
 
@@ -188,19 +192,19 @@ def check_status():
 
 def check_reset_values():
     s = Script()
-    s.frame(0xDA00)
-    first = s.answer(12)
+    s.frame(0xDB00)                         # twelve registers and their CRC
+    first = s.answer(13)
     s.run()
-    want = [0, 0, 0, 0x003F, 0x00FF, 0, 0, 0x0403, 0, 0, 0]
-    expect("reset values", [s.sdo(first + i) for i in range(12)], want + [crc(*want)])
+    want = [0, 0, 0, 0x003F, 0x00FF, 0, 0, 0x0403, 0, 0, 0, 0]
+    expect("reset values", [s.sdo(first + i) for i in range(13)], want + [crc(*want)])
     s = cleared()
-    for address in (0, 1, 2, 3, 4, 6, 8, 9, 10):
+    for address in (0, 1, 2, 3, 4, 6, 8, 9, 10, 11):
         s.write(address, 0x7FFF)
-    s.frame(0xDA00)
-    first = s.answer(12)
+    s.frame(0xDB00)
+    first = s.answer(13)
     s.run()
-    want = [0, 0x7F01, 0x7FFF, 0x01FF, 0x00FF, 0, 0x0B01, 0x0400, 0, 0, 0]
-    expect("writable bits", [s.sdo(first + i) for i in range(11)], want)
+    want = [0, 0x7F01, 0x7FFF, 0x01FF, 0x00FF, 0, 0x0B01, 0x0400, 0, 0, 0, 0]
+    expect("writable bits", [s.sdo(first + i) for i in range(12)], want)
 
 
 # ---- the line ----
@@ -668,6 +672,251 @@ def check_reset_takes_pairs():
     s.run()
     expect("pairs reset", [s.note(e) for e in [*notes, reset, ninth]], [0] * 9 + [9])
     expect("pairs reset: TXFFST", s.sdo(fifo), 0)
+
+
+# ---- 02 item 4: the number of the word with the bad check bit, register 11 ----
+RIGHT = (0x1234, 0xFFFF, 0x0000, 0x8001, 0x7FFE)    # words before the bad one, over and over
+CLEAR = (7, 0x8000)
+
+
+def bad(word):
+    """Sixteen bits high first and the wrong check bit."""
+    return bits(word)[:16] + [word & 1]
+
+
+def opened(right):
+    """The start bit and so many words with a right check bit."""
+    return [0] + [bit for at in range(right) for bit in bits(RIGHT[at % len(RIGHT)])]
+
+
+def damaged(right):
+    """A command with so many right words, a bad one and END. 0x1234 ends in 0 and is given the check bit 0: END is the eighteen 1s behind."""
+    return opened(right) + bad(0x1234) + [1] * 18
+
+
+def numbers(*actions):
+    """From power-up, where nothing is sent, so that no command on the line has a place. A list is ticks, a pair a register write, "reset"
+    a soft reset, "good" and "bad" a power-up; after each the number and CHECK_BIT are read."""
+    s = Script()
+    seen = []
+    for action in actions:
+        if isinstance(action, list):
+            s.ticks(action)
+        elif isinstance(action, tuple):
+            s.write(*action)
+        elif action == "reset":
+            s.reset()
+        else:
+            s.power(int(action == "good"))
+        seen.append((s.read(11), s.read(8)))
+    s.run()
+    return [(s.sdo(number), s.sdo(faces) >> 3 & 1) for number, faces in seen]
+
+
+def check_number():
+    """No error: 0. The number is there with the check bit, not a bit earlier; 300 words is more than RX holds."""
+    expect("number, no error", numbers([1], command(), command(1, 2, 3), [1] * 40), [(0, 0)] * 4)
+    for right in (0, 1, 2, 3, 17, 300):
+        before = opened(right) + bad(0x1234)[:16]
+        expect(f"number {right}", numbers(before, [0], [1] * 17, [1]), [(0, 0)] + [(right, 1)] * 3)
+    # a last bit of 1 and the check bit 1 are two of the eighteen
+    expect("number, odd word", numbers(opened(4) + bad(0x8001), [1] * 16, command(1)), [(4, 1)] * 3)
+
+
+def check_number_begins_anew():
+    """Each command is counted from 0, also behind one of no words, one of right words, and behind a bad one."""
+    for before in (command(), command(*RIGHT), command(0xFFFF), command() + command(7) + [1] * 50):
+        expect(f"anew after {len(before)} bits", numbers(before, damaged(2)), [(0, 0), (2, 1)])
+    expect("anew after a bad one", numbers(damaged(5), CLEAR, damaged(2)), [(5, 1), (0, 0), (2, 1)])
+
+
+def check_number_of_seventeen():
+    """Seventeen 1s and a 0: those seventeen are the bad word; the 0 tells, and is no start bit."""
+    seventeen = [1] * 17
+    expect("seventeen first", numbers([0] + seventeen, [0], [1] * 18, damaged(1)), [(0, 0), (0, 1), (0, 1), (0, 1)])
+    for right in (1, 2, 5):
+        line = [0] + bits(1) * right + seventeen    # 0x0001 has check bit 0, so the run is the seventeen
+        expect(f"seventeen, {right} before", numbers(line, [0], [1] * 17, [1]), [(0, 0)] + [(right, 1)] * 3)
+        expect(f"eighteen, {right} before", numbers(line, [1], damaged(3)), [(0, 0), (0, 0), (3, 1)])
+    # behind a check bit 1 seventeen are END: the 0 then starts a command, whose first word is bad
+    expect("END, a start", numbers([0] + bits(2) + seventeen, [0] + bad(0x1234)), [(0, 0), (0, 1)])
+    # flags cleared while the next bit is awaited: the error is still to come
+    expect("seventeen, cleared", numbers([0] + bits(1) * 2 + seventeen, CLEAR, [0], [1] * 18), [(0, 0), (0, 0), (2, 1), (2, 1)])
+
+
+def check_number_of_ones():
+    """Sixteen 1s and their right check bit 0 are a word like any other; with the check bit 1 and a 0 they are the bad one."""
+    expect("sixteen 1s", numbers([0] + bits(0xFFFF) * 2, bad(0x1234)), [(0, 0), (2, 1)])
+    expect("sixteen 1s, bad", numbers([0] + bits(0xFFFF) * 2 + bad(0xFFFF), [0]), [(0, 0), (2, 1)])
+
+
+def check_number_first():
+    """With the flag up a later error changes nothing, 0 stays too; after a clear the next one counts."""
+    for right in (3, 0):
+        seen = numbers(damaged(right), damaged(1), damaged(0), damaged(5), command(1, 2), (7, 0x7FFF), CLEAR, damaged(1), damaged(4), CLEAR)
+        expect(f"first of many is {right}", seen, [(right, 1)] * 6 + [(0, 0), (1, 1), (1, 1), (0, 0)])
+
+
+def check_number_discarded():
+    """Cleared while the command is discarded: bad groups, seventeen 1s and a 0 give no second number, nor does its END; the next command does."""
+    rest = [bad(0x8001), bad(0x1234), [1] * 17 + [0], [0] * 40, bits(0x5555) * 3, [1] * 18]     # no eighteen 1s but the last
+    seen = numbers(opened(2) + bad(0x1234), CLEAR, *rest, damaged(4))
+    expect("cleared in a bad command", seen, [(2, 1)] + [(0, 0)] * 7 + [(4, 1)])
+
+
+def check_number_stays():
+    """A soft reset leaves it (and ends the command being read); so do the other clears and FAILSAFE. A power-up does not."""
+    expect("reset leaves", numbers(damaged(2), "reset", damaged(1), "reset"), [(2, 1)] * 4)
+    expect("reset in a command", numbers(opened(3), "reset", damaged(1)), [(0, 0), (0, 0), (1, 1)])
+    expect("reset in a bad command", numbers(opened(3) + bad(2), "reset", CLEAR, damaged(1)), [(3, 1), (3, 1), (0, 0), (1, 1)])
+    expect("others leave", numbers(damaged(2), (3, 0x803F), (4, 0x80FF), (5, 4), damaged(1), (5, 1), (6, 0)), [(2, 1)] * 7)
+    expect("FAILSAFE", numbers(CLEAR, (5, 4), damaged(2), CLEAR, damaged(1)), [(0, 0), (0, 0), (2, 1), (0, 0), (1, 1)])
+    for power in ("good", "bad"):
+        expect(f"power-up, {power}", numbers(damaged(2), power, damaged(1), CLEAR), [(2, 1), (0, 0), (1, 1), (0, 0)])
+        expect(f"power-up in a command, {power}", numbers(opened(3), power, damaged(1)), [(0, 0), (0, 0), (1, 1)])
+        expect(f"power-up in a bad command, {power}", numbers(opened(3) + bad(2), power, damaged(1)), [(3, 1), (0, 0), (1, 1)])
+
+
+def check_number_masked():
+    """DIAGMASK bit 11 takes ERR from CHECK_BIT, and nothing from register 11. STATUS: CCSI, DRDY; ERR where not masked."""
+    for mask, status in ((0x0800, 0x4400), (0x0B01, 0x4400), (0x0000, 0x4401), (0x0301, 0x4401)):
+        s = cleared()
+        s.write(6, mask)
+        s.ticks(damaged(6))
+        number, sum_up = s.read(11), s.read(7)
+        s.run()
+        expect(f"mask {mask:04X}", (s.sdo(number), s.sdo(sum_up)), (6, status))
+
+
+def check_number_not_written():
+    """Writes to 11, alone or behind 10, with the flag up or down; the writes are taken."""
+    for value in (0xFFFF, 0x0000, 0x8000, 0x0001):
+        expect(f"11 written {value:04X}", numbers((11, value), damaged(2), (11, value), CLEAR, (11, value)), [(0, 0), (2, 1), (2, 1), (0, 0), (0, 0)])
+    for right, want in ((2, 0x4403), (None, 0x0403)):
+        for frame in ((0xA00B, 0x1234), (0xB00B, 0x1234), (0xA10A, 0xFFFF, 0xFFFF), (0xB10A, 0xFFFF, 0xFFFF)):
+            s = Script()
+            s.ticks([1] if right is None else damaged(right))
+            given = [s.word(word) for word in (*frame, crc(*frame))]
+            status = s.answer()
+            number = s.read(11)
+            s.run()
+            expect(f"frame {frame[0]:04X}, {right}", ({s.note(e) for e in given}, s.sdo(status), s.sdo(number)), ({0}, want, right or 0))
+
+
+def check_twelve_written():
+    """REG_WR_CRC and REG_WR of twelve words from address 0, that of STATUS clears the flags; with a wrong CRC word the first writes nothing.
+
+    A wrong CRC word raises SPI_CRC, 0x0040. Note 6: with what stood, CCSI, DRDY, POR, ERR. Note 7: DRDY alone, the new mask takes ERR away.
+    """
+    values = (0x1111, 0x2001, 0x5555, 0x0010, 0x0020, 0, 0x0B01, 0x8000, 0xFFFF, 0xFFFF, 0xFFFF, 0xFFFF)
+    written = [0, 0x2001, 0x5555, 0x0010, 0x0020, 0, 0x0B01, 0x0400, 0, 0, 0, 0]
+    spoilt = [0x0440 if word == 0x0400 else word for word in written]
+    untouched = [0, 0, 0, 0x003F, 0x00FF, 0, 0, 0x4443, 8, 0, 0, 2]
+    for command_word, wrong, note, want in ((0xAB00, 0, 0, written), (0xBB00, 0, 0, written), (0xAB00, 1, 6, untouched), (0xBB00, 1, 7, spoilt)):
+        s = Script()
+        s.ticks(damaged(2))
+        given = [s.word(word) for word in (command_word, *values, crc(command_word, *values) ^ wrong)]
+        s.release()                         # any answer is dropped
+        s.frame(0xDB00)
+        first = s.answer(13)
+        s.run()
+        name = f"twelve written, {command_word:04X}, note {note}"
+        expect(name, [s.note(e) for e in given], [0] * 13 + [note])
+        expect(name + ": registers", [s.sdo(first + i) for i in range(13)], want + [crc(*want)])
+
+
+def check_number_in_blocks():
+    """Register 11 at the end of a read of 12, of 5 and of 2: each word is what stands when it is fetched."""
+    for command_word, count in ((0xCB00, 12), (0xDB00, 12), (0xD407, 5), (0xC10A, 2), (0xD10A, 2), (0xC00B, 1), (0xD00B, 1)):
+        s = Script()
+        s.frame(command_word)
+        zero = s.answer(count + 1)
+        s.frame(command_word)
+        for _ in range(count - 1):
+            s.word(0xFFFF)
+        s.ticks(damaged(9))                 # between the words before and register 11
+        nine = s.answer(2)
+        s.ticks(damaged(1))
+        s.frame(command_word)
+        again = s.answer(count + 1)
+        s.run()
+        got = [s.sdo(e) for e in (zero + count - 1, nine, again + count - 1)]
+        expect(f"read by {command_word:04X}", got, [0, 9, 9])
+        words = [s.sdo(again + at) for at in range(count + 1)]
+        expect(f"read by {command_word:04X}: CRC", words[-1], crc(*words[:-1]))
+
+
+def check_number_with_a_place():
+    """A command that was sent: read into RX or not, the first word or the last bad. IFST is CHECK_BIT alone: nothing is compared.
+
+    At most sixteen 1s meet before END: a bad 0x7FFF has fifteen and its check bit. The last case is seventeen 1s between two 0s.
+    """
+    plain, ones = (0xAA00, 0x1235, 0x7FFF, 0x4001), (0xAA00, 0xAA01, 0xFFFF, 0x4001)
+    for number in (0x3003, 0x5004, 0x5024, 0x7003, 0x7023):
+        for words, at in ((plain, 0), (plain, 1), (plain, 2), (plain, 3), (ones, 2)):
+            line = [0] + [bit for i, word in enumerate(words) for bit in (bad(word) if i == at else bits(word))] + [1] * 60
+            s = cleared()
+            s.frame(number, *words)
+            s.answer()
+            s.ticks(line)
+            got, faces, fifo = s.read(11), s.read(8), s.read(10)
+            s.run()
+            stored = at if number & 0xF000 == 0x7000 else 0
+            expect(f"{number:04X}, word {at} of {words}", (s.sdo(got), s.sdo(faces), s.sdo(fifo)), (at, 8, stored))
+
+
+def check_number_not_of_storing():
+    """The count goes on where storing ended: place cleared away, RX cleared, RX read empty, RX full, an RX flag up at the start."""
+    for trouble in ("none", "transmit", "receive", "empty", "flag"):
+        s = cleared()
+        if trouble == "flag":
+            s.frame(0x9000)
+            s.answer(2)                     # RX is empty: RXFFUVF
+        s.frame(0x7003, 1, 2, 3, 4)
+        s.answer()
+        s.ticks([0] + bits(1) + bits(2)[:5])
+        if trouble == "transmit":
+            s.write(3, 0x803F)
+        elif trouble == "receive":
+            s.write(4, 0x80FF)
+        elif trouble == "empty":
+            s.frame(0x9001)
+            s.answer(3)
+        s.ticks(bits(2)[5:] + bits(3) + bad(4) + [1] * 40)
+        got = s.read(11)
+        s.run()
+        expect(f"storing ended by {trouble}", s.sdo(got), 3)
+    s = cleared()
+    s.frame(0x7000, 0xAAF0)
+    s.answer()
+    events = s.ticks(damaged(260))
+    got, fifo = s.read(11), s.read(10)
+    s.run()
+    expect("RX full", ([s.note(e) for e in events].count(14), s.sdo(got), s.sdo(fifo)), (1, 260, 0x80FF))
+
+
+def after_many(right):
+    """The numbers after a command of so many right words and a bad one, and after one of two right words, with the flag up and cleared."""
+    s = Script()
+    ticks = bytes(byte for bit in bits(0x1234) for byte in (3, 0, bit)) * right
+    s.ticks([0])
+    s.data += ticks
+    s.count += 17 * right
+    s.ticks(bad(0x1234) + [1] * 18)
+    asked = [s.read(11)]
+    s.ticks(damaged(2))
+    asked.append(s.read(11))
+    s.write(*CLEAR)
+    s.ticks(damaged(2))
+    asked.append(s.read(11))
+    tail = raw(bytes(s.data)).rsplit("\n", 200)[1:-1]   # without the lines of the many words
+    return [int(tail[event - s.count].split()[3], 16) for event in asked]
+
+
+def check_number_stops():
+    """It stops at 65,535."""
+    for right, want in ((65534, 65534), (65535, 65535), (65536 + 5, 65535)):
+        expect(f"{right} right words", after_many(right), [want, want, 2])
 
 
 # ---- clock ----

@@ -1,7 +1,7 @@
 #!/usr/bin/env python3
 """make_scripts.py SEED EVENTS > file.cwb
 
-Meaningful random CWB scripts for the bridge of document 01 with items 2 and 3 of 02, the same for the same seed.
+Meaningful random CWB scripts for the bridge of document 01 with items 2, 3 and 4 of 02, the same for the same seed.
 The SIN bits are mostly a loop-back of SOUT, so the C model is driven through a pipe
 (`bridge_model -i`), which also tells the SOUT bit of the next tick. Nothing the model says
 decides more than SIN bits and a few waits: a script is good for any other implementation.
@@ -19,6 +19,8 @@ POWER, WORD, RELEASE, TICK, CLOCK = range(5)
 TELLING = [0xFFFF, 0x0000, 0x7FFF, 0xFFFE, 0x8000, 0x0001, 0xFFFD, 0xAAF0, 0xAA0F]
 AT_POWER_UP = 0x003F  # TXFFLVL
 PLACES = 8
+REGISTERS = 12  # the address limit of 02 item 4
+NUMBER = 11  # the register of the word that went bad
 END = 18  # ticks of one END, extra or not
 
 
@@ -34,6 +36,12 @@ def crc16(words):
 def word_bits(word):
     bits = [word >> i & 1 for i in range(15, -1, -1)]
     return bits + [1 - bits[-1]]
+
+
+def bad_bits(word):
+    """A word with the wrong check bit."""
+    bits = word_bits(word)
+    return bits[:16] + [1 - bits[16]]
 
 
 class Done(Exception):
@@ -70,22 +78,23 @@ class Bench:
 
 
 class Line:
-    """Makes SIN from SOUT: loop with delay, flips, changed or added words, stuck, its own commands."""
+    """Makes SIN from SOUT: loop with delay, flips, changed, added or damaged words, stuck, its own commands or given bits."""
 
     def __init__(self, rng):
         self.rng = rng
         self.set("loop", 0)
 
-    def set(self, mode, delay=0, rate=0.0):
-        self.mode, self.delay, self.rate = mode, delay, rate
+    def set(self, mode, delay=0, rate=0.0, bad=()):
+        """In mode "damage" the check bits of these words of each command are turned, and others at a rate."""
+        self.mode, self.delay, self.rate, self.bad = mode, delay, rate, bad
         self.fifo = deque([1] * delay)
         self.own = deque()
-        self.run, self.pos, self.group = 18, -1, 0
+        self.run, self.pos, self.group, self.number = 18, -1, 0, 0
 
     def choose(self):
         rng = self.rng
-        mode = rng.choices(["loop", "flip", "change", "insert", "stuck1", "stuck0", "own", "noise"],
-                           [60, 12, 6, 12, 3, 2, 8, 3])[0]
+        mode = rng.choices(["loop", "flip", "change", "insert", "stuck1", "stuck0", "own", "noise", "damage"],
+                           [60, 12, 6, 12, 3, 2, 8, 3, 8])[0]
         delay = rng.choice([0, 0, 1, 2, 17, 18, 19, rng.randint(0, 40)])
         self.set(mode, delay, rng.choice([0.003, 0.01, 0.03]))
 
@@ -94,7 +103,7 @@ class Line:
         self.run = self.run + 1 if bit else 0
         if self.pos < 0:
             if bit == 0:
-                self.pos, self.group = 0, 0
+                self.pos, self.group, self.number = 0, 0, 0
             return False
         self.pos, self.group = self.pos + 1, self.group << 1 | bit
         if self.run >= 18:
@@ -104,14 +113,16 @@ class Line:
             return False
         word = self.group != 0x1FFFF
         self.pos, self.group = 0, 0
+        self.number += word
         return word
 
     def looped(self, sout):
         after_word = self.follow(sout)
         # a 0, so not in an END, and before the word's last bit: another word is read, with no check error
         changed = self.mode == "change" and sout == 0 and 1 <= self.pos <= 15 and self.rng.random() < self.rate
+        turned = self.mode == "damage" and after_word and (self.number - 1 in self.bad or self.rng.random() < 10 * self.rate)
         if not (self.run > 18 and len(self.fifo) > self.delay):
-            self.fifo.append(1 if changed else sout)
+            self.fifo.append(1 if changed else sout ^ turned)
         if self.mode == "insert" and after_word and self.rng.random() < 0.3:
             for _ in range(self.rng.choice([1, 1, 1, 2, 4])):
                 self.fifo.extend(word_bits(self.rng.choice(TELLING + [0x1234, 0xC0DE])))
@@ -142,6 +153,8 @@ class Line:
             if not self.own:
                 self.own_command()
             return self.own.popleft()
+        if self.mode == "given":
+            return self.own.popleft() if self.own else 1
         bit = self.looped(sout)
         if self.mode == "flip" and self.rng.random() < self.rate:
             bit ^= 1
@@ -213,13 +226,13 @@ class Host:
 
     def reg_read(self, address=None, count=None, **how):
         rng = self.rng
-        address = rng.randint(0, 10) if address is None else address
-        count = count or rng.randint(1, 11 - address)
+        address = rng.randrange(REGISTERS) if address is None else address
+        count = count or rng.randint(1, REGISTERS - address)
         number = rng.choice([12, 13])
         yield from self.frame([number << 12 | count - 1 << 8 | address], count + 1, **how)
 
     def observe(self):
-        yield from self.reg_read(*self.rng.choice([(0, 11), (7, 4), (7, 4), (7, 1), (1, 8)]))
+        yield from self.reg_read(*self.rng.choice([(0, REGISTERS), (7, 5), (7, 5), (7, 4), (7, 1), (1, 8), (10, 2), (NUMBER, 1)]))
 
     def soft_reset(self, **how):
         yield from self.frame([0xE000], 2, **how)
@@ -326,6 +339,104 @@ class Host:
         return rng.choice([rng.randint(1, sent - END), sent - rng.randint(1, END), sent - rng.randint(1, END), sent - 1, sent, sent, sent,
                            sent + 1, sent + rng.randint(1, END * ends), sent + END * ends - 1, sent + END * ends])
 
+    # ---- bad check bits, and the number of the word (02 item 4) ----
+    def read_number(self):
+        """Register 11, alone or at the end of a block."""
+        block = self.rng.choice([(NUMBER, 1), (NUMBER, 1), (NUMBER, 1), (10, 2), (10, 2), (0, REGISTERS), (7, 5), (8, 4)])
+        yield ("r",)
+        yield from self.reg_read(*block, wrong=0, cut=0)
+
+    def write_number(self):
+        """A write that must not change it."""
+        address = self.rng.choice([NUMBER, NUMBER, NUMBER, 10, 8, 0])
+        yield ("r",)
+        yield from self.reg_write(address, [self.register_value(at) for at in range(address, REGISTERS)], wrong=0)
+
+    def limit_word(self):
+        """A frame of a register command with address + count 12, or 13, which is over the limit."""
+        rng = self.rng
+        number, low = rng.randint(10, 13), rng.choice([0x10A, 0x00B, 0xB00, 0x10B, 0x00C, 0xC00])
+        address, count = low & 15, (low >> 8) + 1
+        words = [self.register_value(address + i) for i in range(count)] if number <= 11 else []
+        yield ("r",)
+        yield from self.frame([number << 12 | low] + words, 2 if words else count + 1)
+        yield ("r",)
+
+    def bad_line(self, right):
+        """A command of so many right words and then a bad one: a wrong check bit, or seventeen 1s and a 0. More groups, to be discarded; END."""
+        rng = self.rng
+        words = [rng.choice(TELLING + [rng.getrandbits(16)] * 4) for _ in range(right)]
+        seventeen = self.chance(0.3)
+        if seventeen and words:
+            words[-1] |= 1                  # check bit 0, or the seventeen would be END
+        bits = [0]
+        for word in words:
+            bits += word_bits(word)
+        bits += [1] * 17 + [0] if seventeen else bad_bits(rng.choice([0x1234, 0x8001, 0x7FFF, rng.getrandbits(16)]))
+        for _ in range(rng.choice([0, 0, 1, 2, 4])):
+            bits += rng.choice([word_bits(rng.getrandbits(16)), bad_bits(rng.getrandbits(16)), [1] * 17 + [0]])
+        return bits + [1] * rng.choice([18, 18, 18, 19, 36])
+
+    def ticks_with_trouble(self, ticks, bad):
+        """So many ticks; half the time something comes after some of them, at the bit that is bad, about it, behind it or anywhere."""
+        rng = self.rng
+        cut = ticks
+        if self.chance(0.5):
+            cut = rng.choice([bad - 1, bad, bad, bad + 1, rng.randint(bad, ticks), rng.randint(bad, ticks), rng.randint(0, ticks)])
+        yield "t", cut
+        if cut < ticks:
+            yield from self.between()
+            yield "t", ticks - cut
+
+    def bad_given(self):
+        """On SIN alone, while nothing is sent: no place's command."""
+        rng = self.rng
+        right = rng.choice([0, 1, 1, 2, 2, 3, rng.randint(4, 9), rng.randint(4, 9), rng.randint(10, 30)])
+        bits = [1] * rng.choice([0, 0, 1, 20]) + self.bad_line(right)
+        self.line.set("given")
+        self.line.own.extend(bits)
+        yield from self.ticks_with_trouble(len(bits), min(bits.index(0) + 17 * (right + 1) + 1, len(bits)))
+
+    def bad_back(self):
+        """A forward that comes back with one of its words damaged, or two; a damaged 0xFFFF is seventeen 1s."""
+        rng = self.rng
+        number, count = rng.randint(2, 7), rng.choice([1, 2, 2, 3, 3, 4, 6, rng.randint(7, 20)])
+        ends = rng.choice([0, 0, 1, 2]) if number >= 4 else 0
+        at, delay = rng.randrange(count), rng.choice([0, 0, 0, 1, 17, 40])
+        words = self.some_words(count)
+        if self.chance(0.3):
+            words[at] = 0xFFFF
+            if at > 0:
+                words[at - 1] |= 1          # check bit 0
+            if at + 1 < count:
+                words[at + 1] &= 0x7FFF     # the 0 behind the seventeen
+        self.line.set("damage", delay, 0, {at, rng.choice([at, rng.randrange(count)])})
+        yield ("r",)
+        yield from self.frame([number << 12 | ends << 5 | (count if number in (4, 5) else count - 1)] + words, 2, wrong=0, cut=0)
+        yield from self.ticks_with_trouble(1 + 17 * count + END * (1 + ends) + delay + 2, 1 + 17 * (at + 1) + delay)
+
+    def between(self):
+        """What comes between bad words, and in the middle of a command."""
+        rng = self.rng
+        kind = rng.choices("cnwsmtvp", [9, 6, 3, 4, 2, 2, 1, 1])[0]
+        yield ("r",)
+        if kind == "c":
+            yield from self.reg_write(7, [rng.choice([0x8000, 0x8000, 0xFFFF])], wrong=0, cut=0)
+        elif kind == "n":
+            yield from self.read_number()
+        elif kind == "w":
+            yield from self.write_number()
+        elif kind == "s":
+            yield from self.soft_reset(wrong=0, cut=0)
+        elif kind == "m":
+            yield from self.reg_write(6, [rng.choice([0x0800, 0x0B01, 0])], wrong=0, cut=0)
+        elif kind == "t":
+            yield from self.reg_write(3, [rng.choice([0x81FF, 0x803F])], wrong=0, cut=0)
+        elif kind == "v":
+            yield from self.reg_write(7, [rng.choice([0x7FFF, 0, rng.getrandbits(15)])], wrong=0, cut=0)
+        else:
+            yield "p", int(self.chance(0.7))
+
     # ---- programs, one a phase ----
     def one_frame(self):
         rng = self.rng
@@ -346,8 +457,8 @@ class Host:
             yield "w", 0xFFFF
 
     def random_write(self):
-        address = self.rng.randint(0, 10)
-        count = min(self.rng.choice([1, 1, 1, 2, 4, 11]), 11 - address)
+        address = self.rng.randrange(REGISTERS)
+        count = min(self.rng.choice([1, 1, 1, 2, 4, REGISTERS]), REGISTERS - address)
         yield from self.reg_write(address, [self.register_value(address + i) for i in range(count)])
 
     def unblock(self):
@@ -556,6 +667,24 @@ class Host:
             yield from rng.choice([self.pair, self.single, self.observe])()
             yield "t", rng.choice([0, 1, 40, 80])
 
+    def bad_words(self):
+        """Commands with a bad word, come back or no place's, one or some before a clear; register 11 read behind them."""
+        rng = self.rng
+        while True:
+            yield from self.start_over([AT_POWER_UP, 0x01FF])
+            yield "t", 40
+            for _ in range(rng.randint(2, 6)):
+                for _ in range(rng.choice([1, 1, 1, 2, 3])):
+                    yield from rng.choice([self.bad_given, self.bad_back])()
+                    if self.chance(0.8):
+                        yield from self.read_number()
+                yield from self.between()
+                if self.chance(0.15):
+                    yield from self.limit_word()
+                yield from self.read_number()
+                if self.chance(0.4):
+                    yield from self.let_go()
+
     def receive_fill(self):
         self.wrong = self.cut = 0
         rng = self.rng
@@ -571,9 +700,11 @@ class Host:
             bits = [1] * 20 + [0]
             for _ in range(rng.choice([40, 256, 257, 262, 262])):
                 bits += word_bits(rng.getrandbits(16))
+            if self.chance(0.5):
+                bits += bad_bits(rng.getrandbits(16))
             self.line.own.extend(bits + [1] * 18)
             yield "t", len(bits) + 18
-            yield from self.observe()
+            yield from rng.choice([self.observe, self.read_number])()
         else:
             self.line.set("loop", rng.choice([0, 0, 3, 25]))
             for _ in range(rng.choice([3, 9, 9, 9])):
@@ -586,7 +717,7 @@ class Host:
 
     def registers(self):
         while True:
-            yield from self.random_write()
+            yield from self.limit_word() if self.chance(0.2) else self.random_write()
             if self.chance(0.4):
                 yield from self.reg_read()
             if self.chance(0.3):
@@ -603,14 +734,15 @@ class Host:
 
     def malformed(self):
         rng = self.rng
-        bad = [0x0000, 0x1234, 0x2200, 0x2FFF, 0x8100, 0x9FFF, 0xA10A, 0xA00B, 0xB010, 0xBF00,
-               0xC0F0, 0xDB00, 0xD10A, 0xE001, 0xEFFF, 0xF000, 0xFFFE]
-        good = [0x21FF, 0xA00A, 0xAA00, 0xDA00, 0x80FF, 0xE000, 0x4000, 0x5000]
+        bad = [0x0000, 0x1234, 0x2200, 0x2FFF, 0x8100, 0x9FFF, 0xB010, 0xBF00, 0xC0F0, 0xE001, 0xEFFF, 0xF000, 0xFFFE]
+        good = [0x21FF, 0xA00A, 0xAA00]
         while True:
-            yield "w", rng.choice(bad + good[:3])
+            yield "w", rng.choice(bad + good)
             for _ in range(rng.choice([0, 1, 3])):
                 yield "w", rng.choice([0xFFFF, 0xE000, rng.getrandbits(16)])
             yield ("r",)
+            if self.chance(0.5):
+                yield from self.limit_word()
             if self.chance(0.5):
                 yield from self.one_frame()
             yield from self.frame([rng.choice([0x4000, 0x5000])], 2)
@@ -710,12 +842,13 @@ class Host:
 DECK = (["traffic"] * 7 + ["clean_forwards"] * 8 + ["overflow"] * 3 + ["underflow"] * 4
         + ["near_level"] * 2 + ["long_forward"] + ["queue"] * 4 + ["receive_fill"] + ["registers"] * 3 + ["resets"] * 2
         + ["malformed"] + ["watch"] * 3 + ["watchdog"] * 2 + ["failsafe"] * 2 + ["clears"] * 4
-        + ["power"] + ["chaos"] + ["pair_queue"] * 4 + ["pair_freed"] * 6 + ["pair_trouble"] * 7 + ["pair_underflow"] * 5)
+        + ["power"] + ["chaos"] + ["pair_queue"] * 4 + ["pair_freed"] * 6 + ["pair_trouble"] * 7 + ["pair_underflow"] * 5
+        + ["bad_words"] * 14)
 SPAN = {"clean_forwards": 900, "overflow": 1500, "receive_fill": 6500, "queue": 900, "power": 250, "chaos": 150,
         "malformed": 250, "near_level": 2000, "long_forward": 12000, "pair_queue": 600, "pair_freed": 900, "pair_trouble": 700,
-        "pair_underflow": 700}
+        "pair_underflow": 700, "bad_words": 900}
 # with hardly a tick that the program does not ask for
-PACED = ("overflow", "queue", "near_level", "long_forward", "pair_queue", "pair_freed", "pair_trouble", "pair_underflow")
+PACED = ("overflow", "queue", "near_level", "long_forward", "pair_queue", "pair_freed", "pair_trouble", "pair_underflow", "bad_words")
 
 
 class Maker:

@@ -46,11 +46,12 @@ static bool ring_holds(const struct ring *r, unsigned size)
     return r->size == size && r->head < size && r->count <= size;
 }
 
-/* OTP is up in INIT alone; DRDY says whether RX is empty, and is 0 over the level. */
+/* OTP is up in INIT alone; the number of a bad word is 0 while CHECK_BIT is down (02 item 4), its type is its range; DRDY says
+   whether RX is empty, and is 0 over the level. */
 static bool registers_hold(const struct bridge *b)
 {
     return (b->spictrl & ~0xFF01u) == 0 && (b->diagmask & ~0x0B01u) == 0 && b->tx_level < TX_SIZE
-        && b->rx_level < RX_SIZE && b->flag.otp == (b->state == INIT)
+        && b->rx_level < RX_SIZE && b->flag.otp == (b->state == INIT) && (b->flag.check_bit || b->check_word == 0)
         && (b->rx.count == 0 ? b->drdy : !(b->rx.count > b->rx_level && b->drdy));
 }
 
@@ -122,7 +123,8 @@ static bool sender_holds(const struct bridge *b, unsigned begun)
     }
 }
 
-/* A command being read belongs to the oldest place or to none, and is stored only where that place asks for it. */
+/* A command being read belongs to the oldest place or to none, and is stored only where that place asks for it. How many words
+   of it were right (02 item 4) is free: the line is, and the type is the range. */
 static bool reader_holds(const struct bridge *b, unsigned begun)
 {
     const struct reader *r = &b->reader;

@@ -38,6 +38,6 @@ to-register b reply address left sum w v x h q e = rw (h, ← q) e
 pub next-fits : (reply : Reply) (address left : ℕ) → replySound reply ≡ true → reply ≡ Registers address left → address < 65535
 unfolding replySound
 next-fits reply address left s h =
-    let t : (ltb 0 left && leb (address + left) 11) ≡ true = rw h at s in
-    let l : address + left ≤ 11 = leb-true _ _ (and-r (ltb 0 left) _ t) in
+    let t : (ltb 0 left && leb (address + left) 12) ≡ true = rw h at s in
+    let l : address + left ≤ 12 = leb-true _ _ (and-r (ltb 0 left) _ t) in
     omega arith

@@ -149,8 +149,8 @@ fn with_stores(lent: &Fields, after: &Fields, tx: &mut [u16], rx: &mut [u16], wa
 
 // Numbers that are no record's are none that can be lent.
 pub fn tried(lent: &Fields, after: &Fields, want: Want) -> bool {
-    let n = records::at(lent, 139) as usize;
-    let m = records::at(lent, 140) as usize;
+    let n = records::at(lent, 140) as usize;
+    let m = records::at(lent, 141) as usize;
     let record = (n <= 1024) & (m <= 1024) & records::is(lent, records::built(lent));
     let mut tx = [0u16; 1024];
     let mut rx = [0u16; 1024];

@@ -71,6 +71,6 @@ to-due b command k mine blocked right x h e = rw h e
 
 -- the registers of a write exist
 pub spanned : (command : Command) (crc : Bool) (address count : ℕ)
-    → ((crc : Bool) (address count : ℕ) → command ≡ RegisterWrite crc address count → address + count ≤ 11)
-    → command ≡ RegisterWrite crc address count → address + count ≤ 11
+    → ((crc : Bool) (address count : ℕ) → command ≡ RegisterWrite crc address count → address + count ≤ 12)
+    → command ≡ RegisterWrite crc address count → address + count ≤ 12
 spanned command crc address count f h = f crc address count h

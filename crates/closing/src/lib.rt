@@ -92,7 +92,7 @@ fn forward_closed(
 }
 
 fn registers_closed(bridge: Bridge, crc: bool, address: u16, count: u16) -> Plan
-    requires { ⌜ address + count ≤ 11 ⌝ }
+    requires { ⌜ address + count ≤ 12 ⌝ }
     ensures { λ r. ⌜ r ≡ registersClosed bridge crc address count ⌝ }
 {
     let control = bridge.control;
@@ -175,7 +175,7 @@ fn registers_due(
     blocked: bool,
     right: bool,
 ) -> Plan
-    requires { ⌜ address + count ≤ 11 ⌝ }
+    requires { ⌜ address + count ≤ 12 ⌝ }
     ensures { λ r. ⌜ r ≡ crcDue ours bridge (Command.RegisterWrite crc address count) mine blocked right ⌝ }
 {
     if right {
@@ -195,7 +195,7 @@ fn reset_due(bridge: Bridge, mine: u16, blocked: bool, right: bool) -> Plan
 
 // The CRC word, right or wrong.
 pub fn crc_due(bridge: Bridge, command: Command, mine: u16, blocked: bool, right: bool) -> Plan
-    requires { ⌜ ((crc : Bool) (address count : ℕ) → command ≡ Command.RegisterWrite crc address count → address + count ≤ 11) ⌝ }
+    requires { ⌜ ((crc : Bool) (address count : ℕ) → command ≡ Command.RegisterWrite crc address count → address + count ≤ 12) ⌝ }
     ensures { λ r. ⌜ r ≡ crcDue ours bridge command mine blocked right ⌝ }
 {
     match command {

@@ -9,7 +9,7 @@ use Rattle.command.specs.declared.Command.{Command}
 use Rattle.command.specs.declared.Command.the-variants.{Filler, Malformed, Forward, DataRead, RegisterWrite, RegisterRead, SoftReset}
 
 -- The most words of FWD_WR_CRC, of any forward, extra ENDs of one, words read at once (001 table 7-2, 7.5.3), and the end of the registers
--- (001 table 7-3; that a span past it is malformed is 01 Frames, ours)
+-- ("01's address limit becomes 12", 02 item 4; that a span past it is malformed is 01 Frames, ours)
 abbrev pub mostChecked : ℕ
 mostChecked = 512
 
@@ -23,7 +23,7 @@ abbrev pub mostRead : ℕ
 mostRead = 256
 
 abbrev pub registersEnd : ℕ
-registersEnd = 11
+registersEnd = 12
 
 -- The rows of 01's table, by the low twelve bits. `crc`: the command is named _CRC.
 
@@ -43,7 +43,7 @@ readEnds crc low = Forward crc (low % 32 + 1) (low / 32) true
 unfoldable pub dataRead : Bool → ℕ → Command
 dataRead crc low = pick (ltb low mostRead) (DataRead crc (low + 1)) Malformed
 
--- 10 to 13: "bits 11..8 count minus 1; bits 7..4 zero; bits 3..0 address; address + count at most 11"
+-- 10 to 13: "bits 11..8 count minus 1; bits 7..4 zero; bits 3..0 address; address + count at most" 12 (02 item 4)
 abbrev pub spans : ℕ → Bool
 spans low = eqb (low / 16 % 16) 0 && leb (low % 16 + (low / 256 + 1)) registersEnd
 

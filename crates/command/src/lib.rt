@@ -54,7 +54,7 @@ fn spans(low: u16) -> bool
     ensures { λ r. ⌜ r ≡ spansOf low ⌝ }
 {
     let zero = low / 16 % 16 == 0;
-    let within = low % 16 + (low / 256 + 1) <= 11;
+    let within = low % 16 + (low / 256 + 1) <= 12;
     zero & within
 }
 

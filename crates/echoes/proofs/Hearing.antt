@@ -12,7 +12,7 @@ use borrow.Author.Tests.{leb-true, eqb-true}
 use Rattle.base.specs.Pick.{pick, and-l, and-r}
 use Rattle.base.specs.Bits.{val}
 use Rattle.line.specs.Format.{checkBit, pieceLength, pieceBit}
-use Rattle.line.specs.Reader.{heard, hear}
+use Rattle.line.specs.Reader.{heard, nextNumber, hear}
 use Rattle.line.specs.declared.Ear.{Ear}
 use Rattle.line.specs.declared.Ear.the-variants.{Quiet, Group}
 use Rattle.line.specs.declared.Found.{Found}
@@ -49,9 +49,9 @@ idle-ends s h = eqb-true _ _ (and-r (leb (pieceLength (s .piece)) (s .gone) && e
 -- The reader, by the sender whose last bit it heard: outside a command (0), or in one whose END it has not found yet (1).
 pub data Hears (s : Sender) (e : Ear) : ℕ → Type 0 where
   out : e ≡ Quiet → s .left ≡ 0 → (s .piece ≡ EndPiece) ⊎ (idle s ≡ true) → Hears s e 0
-  between : (v : Bool) → pieceLength (s .piece) ≤ s .gone → 0 < s .ends → e ≡ Group 0 0 (val v) → Hears s e 1
-  word : (w : ℕ) → w < 65536 → s .piece ≡ WordPiece w → 0 < s .ends → s .gone ≤ 16 → InWord w (s .gone) e → Hears s e 1
-  closing : (v : Bool) → s .piece ≡ EndPiece → s .left ≡ 0 → (s .gone ≤ 16) ⊎ ((s .gone ≡ 17) × (v ≡ false)) → e ≡ listen v (s .gone) → Hears s e 1
+  between : (i : ℕ) (v : Bool) → pieceLength (s .piece) ≤ s .gone → 0 < s .ends → e ≡ Group i 0 0 (val v) → Hears s e 1
+  word : (i w : ℕ) → w < 65536 → s .piece ≡ WordPiece w → 0 < s .ends → s .gone ≤ 16 → InWord i w (s .gone) e → Hears s e 1
+  closing : (i : ℕ) (v : Bool) → s .piece ≡ EndPiece → s .left ≡ 0 → (s .gone ≤ 16) ⊎ ((s .gone ≡ 17) × (v ≡ false)) → e ≡ listen i v (s .gone) → Hears s e 1
 
 -- What a bit completed, with the commands begun: in or out of a command before and after.
 pub data Finds : Found → ℕ → ℕ → ℕ → Type 0 where
@@ -73,7 +73,7 @@ hear-one : hear Quiet true ≡ heard Quiet Nothing
 unfolding hear pick
 hear-one = refl
 
-hear-zero : hear Quiet false ≡ heard (Group 0 0 (val false)) Start
+hear-zero : hear Quiet false ≡ heard (Group 0 0 0 (val false)) Start
 unfolding hear pick val
 hear-zero = refl
 
@@ -97,62 +97,67 @@ module _ (e : Ear) where
   quiet-on : (t : Sender) → e ≡ Quiet → t .left ≡ 0 → (t .piece ≡ EndPiece) ⊎ (idle t ≡ true) → Heard t e true 0 0
   quiet-on t q z p = by-hear _ e _ 0 0 0 Quiet Nothing (rw q hear-one) (out refl z p) (nothing 0)
 
-  word-heard : (s : Sender) (w : ℕ) → w < 65536 → s .piece ≡ WordPiece w → 0 < s .ends → s .gone ≤ 16 → InWord w (s .gone) e
+  word-heard : (s : Sender) (i w : ℕ) → w < 65536 → s .piece ≡ WordPiece w → 0 < s .ends → s .gone ≤ 16 → InWord i w (s .gone) e
       → Heard (sender (s .piece) (s .gone + 1) (s .left) (s .ends)) e (pieceBit (s .piece) (s .gone)) 0 1
-  word-heard s w k p n h i =
+  word-heard s i w k p n h d =
       elim (ℕ-discrete (s .gone) 16) [
         | yes g ↦
             (let o : pieceLength (s .piece) ≤ s .gone + 1 = rw p (omega arith) in
-            by-hear _ e _ 0 1 1 (Group 0 0 (val (checkBit w))) (Word w) (rw (p, g) (word-end w e (rw g at i))) (between (checkBit w) o n refl) (words w))
+            by-hear _ e _ 0 1 1 (Group (nextNumber i) 0 0 (val (checkBit w))) (Word w) (rw (p, g) (word-end i w e (rw g at d)))
+            (between (nextNumber i) (checkBit w) o n refl) (words w))
         | no g ↦
-            (let d : s .gone < 16 = omega arith in
-            let o : WordOn w (s .gone) (hear e (pieceBit (WordPiece w) (s .gone))) = word-on w (s .gone) e k d i in
-            by-hear _ e _ 0 1 1 (o .ear) Nothing (rw p (o .is)) (word w k p n (omega arith) (rw add-one (o .in-word))) (nothing 1))
+            (let l : s .gone < 16 = omega arith in
+            let o : WordOn i w (s .gone) (hear e (pieceBit (WordPiece w) (s .gone))) = word-on i w (s .gone) e k l d in
+            by-hear _ e _ 0 1 1 (o .ear) Nothing (rw p (o .is)) (word i w k p n (omega arith) (rw add-one (o .in-word))) (nothing 1))
       ]
 
-  closing-heard : (s : Sender) (v : Bool) → s .piece ≡ EndPiece → s .left ≡ 0 → (s .gone ≤ 16) ⊎ ((s .gone ≡ 17) × (v ≡ false)) → e ≡ listen v (s .gone)
+  closing-heard : (s : Sender) (i : ℕ) (v : Bool) → s .piece ≡ EndPiece → s .left ≡ 0 → (s .gone ≤ 16) ⊎ ((s .gone ≡ 17) × (v ≡ false))
+      → e ≡ listen i v (s .gone)
       → Heard (sender (s .piece) (s .gone + 1) (s .left) (s .ends)) e (pieceBit (s .piece) (s .gone)) 0 1
-  closing-heard s v p z (inr (g, b)) i =
-      by-hear _ e _ 0 1 0 Quiet End (rw (end-bit s p, i, g, b) end-after-zero) (out refl z (inl p)) ends
-  closing-heard s v p z (inl h) i =
+  closing-heard s i v p z (inr (g, b)) l =
+      by-hear _ e _ 0 1 0 Quiet End (rw (end-bit s p, l, g, b) (end-after-zero i)) (out refl z (inl p)) ends
+  closing-heard s i v p z (inl h) l =
       elim (ℕ-discrete (s .gone) 16) [
-        | yes g ↦ sixteen v (rw g at i) g
+        | yes g ↦ sixteen v (rw g at l) g
         | no g ↦
             (let d : s .gone < 16 = omega arith in
-            by-hear _ e _ 0 1 1 (listen v (suc (s .gone))) Nothing (rw (end-bit s p, i) (end-on v (s .gone) d)) (closing v p z (inl (omega arith)) (rw add-one refl)) (nothing 1))
+            by-hear _ e _ 0 1 1 (listen i v (suc (s .gone))) Nothing (rw (end-bit s p, l) (end-on i v (s .gone) d))
+            (closing i v p z (inl (omega arith)) (rw add-one refl)) (nothing 1))
       ]
     where
-      sixteen : (v : Bool) → e ≡ listen v 16 → s .gone ≡ 16 → Heard (sender (s .piece) (s .gone + 1) (s .left) (s .ends)) e (pieceBit (s .piece) (s .gone)) 0 1
-      sixteen true i g = by-hear _ e _ 0 1 0 Quiet End (rw (end-bit s p, i) end-after-one) (out refl z (inl p)) ends
-      sixteen false i g =
-          by-hear _ e _ 0 1 1 (listen false 17) Nothing (rw (end-bit s p, i) end-on-zero) (closing false p z (inr (omega arith, refl)) (rw (add-one, g) refl)) (nothing 1)
+      sixteen : (v : Bool) → e ≡ listen i v 16 → s .gone ≡ 16 → Heard (sender (s .piece) (s .gone + 1) (s .left) (s .ends)) e (pieceBit (s .piece) (s .gone)) 0 1
+      sixteen true l g = by-hear _ e _ 0 1 0 Quiet End (rw (end-bit s p, l) (end-after-one i)) (out refl z (inl p)) ends
+      sixteen false l g =
+          by-hear _ e _ 0 1 1 (listen i false 17) Nothing (rw (end-bit s p, l) (end-on-zero i))
+          (closing i false p z (inr (omega arith, refl)) (rw (add-one, g) refl)) (nothing 1)
 
   pub heard-step : (s : Sender) (b : Bool) (t : Sender) (j k : ℕ) → Hears s e k → Step s b t j → Heard t e b j k
   heard-step s b t j k (out q z p) (on _ l) = out-on s l q z p
   heard-step s b t j k (out q z p) (load _ w h o l) = absurd (omega arith)
   heard-step s b t j k (out q z p) (close _ o l n) = quiet-on _ q refl (inl refl)
   heard-step s b t j k (out q z p) (begin _ n m i) =
-      by-hear _ e _ 1 0 1 _ Start (rw q hear-zero) (between false (omega arith) (omega arith) refl) starts
+      by-hear _ e _ 1 0 1 _ Start (rw q hear-zero) (between 0 false (omega arith) (omega arith) refl) starts
   heard-step s b t j k (out q z p) (ones _ m i) = quiet-on _ q refl (inl refl)
   heard-step s b t j k (out q z p) (rest _ _ i h) = quiet-on t q (idle-left t h) (inr h)
-  heard-step s b t j k (between v o n i) (on _ l) = absurd (omega arith)
-  heard-step s b t j k (between v o n i) (load _ w h p l) =
-      let d : WordOn w 0 (hear (Group 0 0 (val v)) (pieceBit (WordPiece w) 0)) = word-on w 0 (Group 0 0 (val v)) h (omega arith) (word-none w v h) in
-      by-hear _ e _ 0 1 1 (d .ear) Nothing (rw i (d .is)) (word w h refl n (omega arith) (d .in-word)) (nothing 1)
-  heard-step s b t j k (between v o n i) (close _ p l m) =
-      by-hear _ e _ 0 1 1 (listen v 1) Nothing (rw i (unfold listen in end-on v 0 (omega arith))) (closing v refl refl (inl (omega arith)) refl) (nothing 1)
-  heard-step s b t j k (between v o n i) (begin _ a m h) = absurd (omega (arith, idle-ends s h))
-  heard-step s b t j k (between v o n i) (ones _ m h) = absurd (omega (arith, idle-ends s h))
-  heard-step s b t j k (between v o n i) (rest _ _ h g) = absurd (omega (arith, idle-ends s h))
-  heard-step s b t j k (word w h p n g i) (on _ l) = word-heard s w h p n g i
-  heard-step s b t j k (word w h p n g i) (load _ x y o l) = let o : 17 ≤ s .gone = rw p at o in absurd (omega arith)
-  heard-step s b t j k (word w h p n g i) (close _ o l m) = let o : 17 ≤ s .gone = rw p at o in absurd (omega arith)
-  heard-step s b t j k (word w h p n g i) (begin _ a m y) = absurd (omega (arith, idle-ends s y))
-  heard-step s b t j k (word w h p n g i) (ones _ m y) = absurd (omega (arith, idle-ends s y))
-  heard-step s b t j k (word w h p n g i) (rest _ _ y x) = absurd (omega (arith, idle-ends s y))
-  heard-step s b t j k (closing v p z g i) (on _ l) = closing-heard s v p z g i
-  heard-step s b t j k (closing v p z g i) (load _ x y o l) = absurd (omega arith)
-  heard-step s b t j k (closing v p z g i) (close _ o l m) = absurd (unfinished s v p g o)
-  heard-step s b t j k (closing v p z g i) (begin _ a m y) = absurd (unfinished s v p g (idle-over s y))
-  heard-step s b t j k (closing v p z g i) (ones _ m y) = absurd (unfinished s v p g (idle-over s y))
-  heard-step s b t j k (closing v p z g i) (rest _ _ y x) = absurd (unfinished s v p g (idle-over s y))
+  heard-step s b t j k (between a v o n i) (on _ l) = absurd (omega arith)
+  heard-step s b t j k (between a v o n i) (load _ w h p l) =
+      let d : WordOn a w 0 (hear (Group a 0 0 (val v)) (pieceBit (WordPiece w) 0)) =
+      word-on a w 0 (Group a 0 0 (val v)) h (omega arith) (word-none a w v h) in
+      by-hear _ e _ 0 1 1 (d .ear) Nothing (rw i (d .is)) (word a w h refl n (omega arith) (d .in-word)) (nothing 1)
+  heard-step s b t j k (between a v o n i) (close _ p l m) =
+      by-hear _ e _ 0 1 1 (listen a v 1) Nothing (rw i (unfold listen in end-on a v 0 (omega arith))) (closing a v refl refl (inl (omega arith)) refl) (nothing 1)
+  heard-step s b t j k (between a v o n i) (begin _ c m h) = absurd (omega (arith, idle-ends s h))
+  heard-step s b t j k (between a v o n i) (ones _ m h) = absurd (omega (arith, idle-ends s h))
+  heard-step s b t j k (between a v o n i) (rest _ _ h g) = absurd (omega (arith, idle-ends s h))
+  heard-step s b t j k (word a w h p n g i) (on _ l) = word-heard s a w h p n g i
+  heard-step s b t j k (word a w h p n g i) (load _ x y o l) = let o : 17 ≤ s .gone = rw p at o in absurd (omega arith)
+  heard-step s b t j k (word a w h p n g i) (close _ o l m) = let o : 17 ≤ s .gone = rw p at o in absurd (omega arith)
+  heard-step s b t j k (word a w h p n g i) (begin _ c m y) = absurd (omega (arith, idle-ends s y))
+  heard-step s b t j k (word a w h p n g i) (ones _ m y) = absurd (omega (arith, idle-ends s y))
+  heard-step s b t j k (word a w h p n g i) (rest _ _ y x) = absurd (omega (arith, idle-ends s y))
+  heard-step s b t j k (closing a v p z g i) (on _ l) = closing-heard s a v p z g i
+  heard-step s b t j k (closing a v p z g i) (load _ x y o l) = absurd (omega arith)
+  heard-step s b t j k (closing a v p z g i) (close _ o l m) = absurd (unfinished s v p g o)
+  heard-step s b t j k (closing a v p z g i) (begin _ c m y) = absurd (unfinished s v p g (idle-over s y))
+  heard-step s b t j k (closing a v p z g i) (ones _ m y) = absurd (unfinished s v p g (idle-over s y))
+  heard-step s b t j k (closing a v p z g i) (rest _ _ y x) = absurd (unfinished s v p g (idle-over s y))

@@ -85,10 +85,10 @@ settle-idle left lag delay rest later h z k g = rw (h, z) (omega arith)
 -- an idle sender whose bits have come back leaves the reader out of a command
 idle-out : (s : Sender) (e : Ear) (k : ℕ) → idle s ≡ true → Hears s e k → k ≡ 0
 idle-out s e k i (out q z p) = refl
-idle-out s e k i (between v o n g) = absurd (omega (arith, idle-ends s i))
-idle-out s e k i (word w h p n g m) = absurd (omega (arith, idle-ends s i))
-idle-out s e k i (closing v p z (inl g) m) = let o : 18 ≤ s .gone = rw p at (idle-over s i) in absurd (omega arith)
-idle-out s e k i (closing v p z (inr (g, b)) m) = let o : 18 ≤ s .gone = rw p at (idle-over s i) in absurd (omega arith)
+idle-out s e k i (between a v o n g) = absurd (omega (arith, idle-ends s i))
+idle-out s e k i (word a w h p n g m) = absurd (omega (arith, idle-ends s i))
+idle-out s e k i (closing a v p z (inl g) m) = let o : 18 ≤ s .gone = rw p at (idle-over s i) in absurd (omega arith)
+idle-out s e k i (closing a v p z (inr (g, b)) m) = let o : 18 ≤ s .gone = rw p at (idle-over s i) in absurd (omega arith)
 
 module _ (s : Sending) (r : SendRules s 0 0) where
   -- at rest exactly where nothing remains

@@ -11,7 +11,7 @@ use Rattle.line.specs.Reader.{hear}
 use Rattle.line.specs.declared.Ear.{Ear}
 use Rattle.line.specs.declared.Found.{Found}
 use Rattle.line.specs.declared.Found.the-variants.{Nothing, Start, Word, End, CheckError, Over}
-use Rattle.registers.specs.Raising.{raised}
+use Rattle.registers.specs.Raising.{raised, wentBad}
 use Rattle.registers.specs.Registers.{blocking}
 use Rattle.registers.specs.declared.Flags.{Flags}
 use Rattle.state.specs.Frame.{toCome, mineOf}
@@ -73,11 +73,11 @@ por-word r q f e w =
     (λ p. pick-keeps (λ (t : Taken). t .flags .por ≡ f .por) _ _ _ (λ m. refl) (λ m. refl)) (λ p. refl)
 
 por-taken : (found : Found) (r : Receiving) (q : Queue) (f : Flags) (e : Ear) → takenBy found r q f e .flags .por ≡ f .por
-unfolding takenBy ended raised
+unfolding takenBy ended raised wentBad
 por-taken Nothing r q f e = refl
 por-taken Start r q f e = refl
 por-taken (Word w) r q f e = por-word r q f e w
-por-taken CheckError r q f e = refl
+por-taken (CheckError n) r q f e = refl
 por-taken End r q f e = pick-keeps (λ (g : Flags). g .por ≡ f .por) _ _ _ (λ t. refl) (λ t. refl)
 por-taken Over r q f e = pick-keeps (λ (g : Flags). g .por ≡ f .por) _ _ _ (λ t. refl) (λ t. refl)
 

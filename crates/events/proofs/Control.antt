@@ -11,8 +11,8 @@ use Rattle.line.specs.declared.Found.{Found}
 use Rattle.line.specs.declared.Found.the-variants.{Nothing, Start, Word, End, CheckError, Over}
 use Rattle.reader.specs.Reader.{wordTaken, ended, takenBy, tickReader}
 use Rattle.reader.specs.declared.Taken.{Taken}
-use Rattle.registers.specs.Raising.{raised}
-use Rattle.registers.specs.Registers.{blocking, isNormal, rxff, powerUpFlags, powerUpControl}
+use Rattle.registers.specs.Raising.{raised, wentBad}
+use Rattle.registers.specs.Registers.{blocking, isNormal, rxff, table, powerUpFlags, powerUpControl}
 use Rattle.registers.specs.declared.Flags.{Flags}
 use Rattle.registers.specs.declared.Mode.{Mode}
 use Rattle.registers.specs.declared.Mode.the-variants.{Normal, Init, Failsafe}
@@ -29,7 +29,7 @@ use Rattle.base.specs.Truth.{or-left, and-none}
 use Rattle.kept.proofs.Control.{settled-control}
 use Rattle.base.specs.Truth.{or-true}
 use Rattle.rules.specs.Facts.{ControlRules}
-use Rattle.frame_rules.specs.Frames.{otpSound, isUnmarked}
+use Rattle.frame_rules.specs.Frames.{otpSound, badWordSound, isUnmarked}
 use Rattle.state.specs.Frame.{isForward}
 use Rattle.events.specs.Events.{powered}
 use Rattle.ticks.specs.Ticks.{blockedIn, withFlagsOf, starvedFlags, flagsSent, phaseAfter, controlTicked, tickEnds, tickHears, ticked}
@@ -41,34 +41,35 @@ Obeys b = ControlRules (b .control) (b .receiving .rx .count) (b .frame .phase)
 -- 1. The reader raises RXFFOVF, with a word dropped, CHECK_BIT and line CRC.
 record Raises (f g : Flags) (full : Bool) : Type 0 where
   otp : g .otp ≡ f .otp
+  word : badWordSound f ≡ true → badWordSound g ≡ true
   blocks : blocking g ≡ blocking f
   hears : rxff g ≡ true → (rxff f || full) ≡ true
 
 module _ (r : Receiving) (q : Queue) (f : Flags) (e : Ear) where
   raises-none : (full : Bool) → Raises f f full
-  raises-none full = record { otp = refl; blocks = refl; hears = λ h. or-left (rxff f) full h }
+  raises-none full = record { otp = refl; word = λ h. h; blocks = refl; hears = λ h. or-left (rxff f) full h }
 
   word-raises : (w : ℕ) → Raises f (wordTaken r q f e w .flags) (wordTaken r q f e w .full)
   unfolding wordTaken raised blocking
   word-raises w =
       pick-keeps (λ (t : Taken). Raises f (t .flags) (t .full)) _ _ _
       (λ s. pick-keeps (λ (t : Taken). Raises f (t .flags) (t .full)) _ _ _ (λ c. raises-none false)
-      (λ c. record { otp = refl; blocks = refl; hears = λ h. or-true (rxff f) }))
+      (λ c. record { otp = refl; word = λ h. h; blocks = refl; hears = λ h. or-true (rxff f) }))
       (λ s. raises-none false)
 
   ended-raises : Raises f (ended r q f e .flags) (ended r q f e .full)
   unfolding ended raised blocking
   ended-raises =
-      pick-keeps (λ (g : Flags). Raises f g false) _ _ f (λ d. record { otp = refl; blocks = refl; hears = λ h. or-left (rxff f) false h })
+      pick-keeps (λ (g : Flags). Raises f g false) _ _ f (λ d. record { otp = refl; word = λ h. h; blocks = refl; hears = λ h. or-left (rxff f) false h })
       (λ d. raises-none false)
 
   taken-raises : (found : Found) → Raises f (takenBy found r q f e .flags) (takenBy found r q f e .full)
-  unfolding takenBy raised blocking
+  unfolding takenBy wentBad blocking
   taken-raises Nothing = raises-none false
   taken-raises Start = raises-none false
   taken-raises (Word w) = word-raises w
   taken-raises End = ended-raises
-  taken-raises CheckError = record { otp = refl; blocks = refl; hears = λ h. or-left (rxff f) false h }
+  taken-raises (CheckError n) = record { otp = refl; word = λ h. refl; blocks = refl; hears = λ h. or-left (rxff f) false h }
   taken-raises Over = ended-raises
 
 reader-raises : (r : Receiving) (q : Queue) (f : Flags) (sin : Bool) → Raises f (tickReader r q f sin .flags) (tickReader r q f sin .full)
@@ -99,6 +100,16 @@ sent-otp : (f : Flags) (s : Sent) → flagsSent f s .otp ≡ f .otp
 unfolding flagsSent
 sent-otp f s =
     pick-keeps (λ (g : Flags). g .otp ≡ f .otp) (s .differs) _ _ (λ h. unfold raised in starved-otp f (s .starved)) (λ h. starved-otp f (s .starved))
+
+starved-word : (f : Flags) (starved : Bool) → badWordSound (starvedFlags f starved) ≡ badWordSound f
+unfolding starvedFlags raised
+starved-word f starved = pick-keeps (λ (g : Flags). badWordSound g ≡ badWordSound f) starved _ f (λ h. refl) (λ h. refl)
+
+sent-word : (f : Flags) (s : Sent) → badWordSound (flagsSent f s) ≡ badWordSound f
+unfolding flagsSent
+sent-word f s =
+    pick-keeps (λ (g : Flags). badWordSound g ≡ badWordSound f) (s .differs) _ _ (λ h. unfold raised in starved-word f (s .starved))
+    (λ h. starved-word f (s .starved))
 
 -- "while a blocking flag is or was up during this frame": a starved tick marks an open forward
 blocked-marked : (p : Phase) → isUnmarked (blockedIn p) ≡ false
@@ -139,6 +150,7 @@ tick-control b sin w r =
     let k : Raises f (t .flags) (t .full) = reader-raises (b .receiving) (s .sending .queue) f sin in
     settled-control (withFlagsOf (b .control) (t .flags)) (t .receiving .rx .count) (t .ended) (phaseAfter (b .frame .phase) (s .starved))
     (rw (k .otp, sent-otp (b .control .flags) s) (r .otp))
+    (k .word (rw (sent-word (b .control .flags) s) (r .word)))
     (rw (k .blocks) (sent-marked (b .control .flags) s (b .frame .phase) (r .marked)))
 
 -- "NORMAL becomes FAILSAFE": INIT stays
@@ -149,9 +161,12 @@ bitten-otp Init otp true n h = cc (n refl)
 bitten-otp Failsafe otp true n h = h
 bitten-otp m otp false n h = h
 
-flags-at : (f : Flags) (fires : Bool) → (flagsAt f fires .otp ≡ f .otp) × (blocking (flagsAt f fires) ≡ blocking f)
+flags-at : (f : Flags) (fires : Bool)
+    → (flagsAt f fires .otp ≡ f .otp) × (blocking (flagsAt f fires) ≡ blocking f) × (badWordSound (flagsAt f fires) ≡ badWordSound f)
 unfolding flagsAt raised blocking
-flags-at f fires = pick-keeps (λ (g : Flags). (g .otp ≡ f .otp) × (blocking g ≡ blocking f)) fires _ f (λ h. (refl, refl)) (λ h. (refl, refl))
+flags-at f fires =
+    pick-keeps (λ (g : Flags). (g .otp ≡ f .otp) × (blocking g ≡ blocking f) × (badWordSound g ≡ badWordSound f)) fires _ f (λ h. (refl, refl, refl))
+    (λ h. (refl, refl, refl))
 
 pub clock-control : (b : Bridge) (reading : ℕ) → Obeys b → Obeys (clocked b reading .bridge)
 unfolding clocked controlAt
@@ -159,15 +174,16 @@ clock-control b reading r =
     let e = flags-at (b .control .flags) (watchFires (b .clock) reading) in
     settled-control _ (b .receiving .rx .count) false (b .frame .phase)
     (rw (e .0) (bitten-otp (b .control .mode) (b .control .flags .otp) (dogFires b reading) (λ h. search (and-l, and-r)) (r .otp)))
+    (rw (e .2) (r .word))
     (rw (e .1) (r .marked))
 
 good-control : Obeys powerUp
-unfolding powerUp powerUpControl powerUpFlags isUnmarked blocking pick
-good-control = record { otp = refl; drdy = refl; marked = refl }
+unfolding powerUp powerUpControl powerUpFlags table isUnmarked blocking pick
+good-control = record { otp = refl; drdy = refl; word = refl; marked = refl }
 
 bad-control : Obeys powerUpBad
-unfolding powerUpBad badControl powerUpControl powerUpFlags isUnmarked blocking pick
-bad-control = record { otp = refl; drdy = refl; marked = refl }
+unfolding powerUpBad badControl powerUpControl powerUpFlags table isUnmarked blocking pick
+bad-control = record { otp = refl; drdy = refl; word = refl; marked = refl }
 
 pub power-control : (good : Bool) → Obeys (powered good)
 unfolding powered

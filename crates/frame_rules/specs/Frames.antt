@@ -1,5 +1,5 @@
--- The record rules of registers, flags and frame (01 Notes, note 2). docs/RECORD-RULES.md says what each is for. Assumes nothing.
-use mathlib.Core.Bool.{Bool, false, not, _&&_}
+-- The record rules of registers, flags and frame (01 Notes, note 2; 02 item 4). docs/RECORD-RULES.md says what each is for. Assumes nothing.
+use mathlib.Core.Bool.{Bool, false, not, _&&_, _||_}
 use Prim.Native.Nat.{ℕ}
 use lib.Dec.{ltb, eqb}
 use Rattle.base.specs.Pick.{pick}
@@ -22,8 +22,13 @@ otpSound Failsafe otp = not otp
 abbrev pub drdySound : Bool → ℕ → ℕ → Bool
 drdySound drdy level count = pick (eqb count 0) drdy (not (ltb level count && drdy))
 
+-- "register 11, which reads 0 when the flag is down". 02 item 4
+abbrev pub badWordSound : Flags → Bool
+badWordSound f = f .«check_bit» || eqb (f .«bad_word») 0
+
 abbrev pub controlSound : Control → ℕ → Bool
-controlSound c count = regsSound (c .regs) && otpSound (c .mode) (c .flags .otp) && drdySound (c .drdy) (c .regs .rxfflvl) count
+controlSound c count =
+    regsSound (c .regs) && otpSound (c .mode) (c .flags .otp) && drdySound (c .drdy) (c .regs .rxfflvl) count && badWordSound (c .flags)
 
 -- an open forward that is not marked as blocked
 unfoldable pub isUnmarked : Phase → Bool

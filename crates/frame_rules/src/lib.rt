@@ -3,7 +3,7 @@ ghost use mathlib.Core.Path.{_≡_};
 ghost use mathlib.Core.Bool.{_||_};
 ghost use Prim.Native.Nat.{_+_};
 ghost use lib.Dec.{leb};
-ghost use Rattle.frame_rules.specs.Frames.{otpSound, drdySound, controlSound, isUnmarked, flagsSound};
+ghost use Rattle.frame_rules.specs.Frames.{otpSound, drdySound, badWordSound, controlSound, isUnmarked, flagsSound};
 ghost use Rattle.base.specs.Pick.{pick};
 ghost use Rattle.state.specs.Frame.{mineOf, owedBy, toCome, forwardSound, collectSound, replySound, phaseSound};
 use command::Command;
@@ -34,6 +34,13 @@ fn drdy_sound(drdy: bool, level: u16, count: u16) -> bool
     !((level < count) & drdy)
 }
 
+// What register 11 shows is 0 while CHECK_BIT is down (02 item 4).
+fn bad_word_sound(flags: Flags) -> bool
+    ensures { λ r. ⌜ r ≡ badWordSound flags ⌝ }
+{
+    flags.check_bit | (flags.bad_word == 0)
+}
+
 pub fn control_sound(control: Control, count: u16) -> bool
     ensures { λ r. ⌜ r ≡ controlSound control count ⌝ }
 {
@@ -41,7 +48,8 @@ pub fn control_sound(control: Control, count: u16) -> bool
     let regs = registers::regs_sound(control.regs);
     let otp = otp_sound(mode, control.flags.otp);
     let drdy = drdy_sound(control.drdy, control.regs.rxfflvl, count);
-    regs & otp & drdy
+    let word = bad_word_sound(control.flags);
+    regs & otp & drdy & word
 }
 
 // The data words of a forward that its frame has in TX.
@@ -68,9 +76,9 @@ fn forward_sound(forward: Fwd, at: Progress) -> bool
 }
 
 fn span_sound(address: u16, count: u16) -> bool
-    ensures { λ r. ⌜ r ≡ leb (address + count) 11 ⌝ }
+    ensures { λ r. ⌜ r ≡ leb (address + count) 12 ⌝ }
 {
-    address as u32 + count as u32 <= 11
+    address as u32 + count as u32 <= 12
 }
 
 fn collect_sound(command: Command, at: Progress) -> bool

@@ -25,27 +25,27 @@ and-first-fails a b h = rw h
 
 -- a span of registers, by what is left behind its address
 module _ (address count : ℕ) where
-  pub spans-past : 11 ≤ address → spans address count ≡ false
+  pub spans-past : 12 ≤ address → spans address count ≡ false
   spans-past h =
       elim (decLe 1 count) [
-        | yes p ↦ and-none (leb 1 count) (leb (address + count) 11) (lt-leb (address + count) 11 (omega arith))
-        | no p ↦ and-first-fails (leb 1 count) (leb (address + count) 11) (lt-leb 1 count (omega arith))
+        | yes p ↦ and-none (leb 1 count) (leb (address + count) 12) (lt-leb (address + count) 12 (omega arith))
+        | no p ↦ and-first-fails (leb 1 count) (leb (address + count) 12) (lt-leb 1 count (omega arith))
       ]
 
   pub spans-none : count < 1 → spans address count ≡ false
-  spans-none h = and-first-fails (leb 1 count) (leb (address + count) 11) (lt-leb 1 count (omega arith))
+  spans-none h = and-first-fails (leb 1 count) (leb (address + count) 12) (lt-leb 1 count (omega arith))
 
-  pub spans-over : 11 - address < count → spans address count ≡ false
-  spans-over h = and-none (leb 1 count) (leb (address + count) 11) (lt-leb (address + count) 11 (omega arith))
+  pub spans-over : 12 - address < count → spans address count ≡ false
+  spans-over h = and-none (leb 1 count) (leb (address + count) 12) (lt-leb (address + count) 12 (omega arith))
 
-  pub spans-fits : address < 11 → 1 ≤ count → count ≤ 11 - address → spans address count ≡ true
-  spans-fits h k l = and-both (leb 1 count) (leb (address + count) 11) (le-leb 1 count k) (le-leb (address + count) 11 (omega arith))
+  pub spans-fits : address < 12 → 1 ≤ count → count ≤ 12 - address → spans address count ≡ true
+  spans-fits h k l = and-both (leb 1 count) (leb (address + count) 12) (le-leb 1 count k) (le-leb (address + count) 12 (omega arith))
 
-  pub spans-by : address < 11 → 1 ≤ count → leb count (11 - address) ≡ spans address count
+  pub spans-by : address < 12 → 1 ≤ count → leb count (12 - address) ≡ spans address count
   spans-by h k =
-      elim (decLe count (11 - address)) [
-        | yes p ↦ le-leb count (11 - address) p ∙ sym (spans-fits h k p)
-        | no p ↦ lt-leb count (11 - address) (omega arith) ∙ sym (spans-over (omega arith))
+      elim (decLe count (12 - address)) [
+        | yes p ↦ le-leb count (12 - address) p ∙ sym (spans-fits h k p)
+        | no p ↦ lt-leb count (12 - address) (omega arith) ∙ sym (spans-over (omega arith))
       ]
 
 pub ruleset spanned = (spans-past, spans-none, spans-over, spans-fits, spans-by)

@@ -39,7 +39,7 @@ numberOf (RegRdCrc address count) = 12
 numberOf (RegRd address count) = 13
 numberOf SoftResetCrc = 14
 
--- "address + count at most 11"
+-- "address + count at most" 12 (02 item 4)
 abbrev pub spans : ℕ → ℕ → Bool
 spans address count = leb 1 count && leb (address + count) registersEnd
 

@@ -80,13 +80,13 @@ fn registers_head(number: u16, address: u16, words: u16) -> Head
     requires { ⌜ number ≤ 14 ⌝ }
     ensures { λ r. ⌜ r ≡ pick (ltb address registersEnd && spansOf address words) (Head.Word (number * 4096 + ((words - 1) * 256 + address))) Head.Outside ⌝ }
 {
-    if 11 <= address {
+    if 12 <= address {
         return Head::Outside;
     }
     if words < 1 {
         return Head::Outside;
     }
-    if 11 - address < words {
+    if 12 - address < words {
         return Head::Outside;
     }
     Head::Word(number * 4096 + ((words - 1) * 256 + address))
@@ -100,13 +100,13 @@ fn read_head(number: u16, address: u16, count: u16, words: u16) -> Head
     if words != 0 {
         return Head::Outside;
     }
-    if 11 <= address {
+    if 12 <= address {
         return Head::Outside;
     }
     if count < 1 {
         return Head::Outside;
     }
-    if 11 - address < count {
+    if 12 - address < count {
         return Head::Outside;
     }
     Head::Word(number * 4096 + ((count - 1) * 256 + address))
@@ -174,13 +174,13 @@ fn is_read(count: u16) -> bool
 fn spans(address: u16, count: u16) -> bool
     ensures { λ r. ⌜ r ≡ spansOf address count ⌝ }
 {
-    if 11 <= address {
+    if 12 <= address {
         return false;
     }
     if count < 1 {
         return false;
     }
-    count <= 11 - address
+    count <= 12 - address
 }
 
 // What an order is answered with.
@@ -196,8 +196,8 @@ pub fn due(order: Order) -> Due
         Order::FwdRdEnd { ends } => status_due(ends <= 127),
         Order::DataRdCrc { count } => data_due(is_read(count), count),
         Order::DataRd { count } => data_due(is_read(count), count),
-        Order::RegWrCrc { address } => status_due(address < 11),
-        Order::RegWr { address } => status_due(address < 11),
+        Order::RegWrCrc { address } => status_due(address < 12),
+        Order::RegWr { address } => status_due(address < 12),
         Order::RegRdCrc { address, count } => data_due(spans(address, count), count),
         Order::RegRd { address, count } => data_due(spans(address, count), count),
         Order::SoftResetCrc => Due::StatusDue,

@@ -6,7 +6,7 @@ use native.Mathlib.Omega.{arith}
 use lib.Dec.{ltb, leb, eqb}
 use borrow.Author.Tests.{le-leb, eq-eqb, leb-true, eqb-true}
 use Rattle.base.specs.Pick.{pick-true, pick-le, pick-lt, pick-ne, and-l, and-r, and-both}
-use Rattle.command.specs.Layout.{byNumber, rows, write, writeEnds, readEnds, dataRead, registerWrite, registerRead, softReset, decodeOurs}
+use Rattle.command.specs.Layout.{byNumber, rows, write, writeEnds, readEnds, dataRead, registerWrite, registerRead, softReset, decodeOurs, registersEnd}
 use Rattle.command.specs.declared.Command.{Command}
 use Rattle.command.specs.declared.Command.the-variants.{Forward, DataRead, RegisterWrite, RegisterRead, SoftReset}
 use Rattle.state.specs.Frame.{dataWords}
@@ -25,10 +25,10 @@ Bounds (FwdRdEndCrc ends) n = (ends ≤ 127) × ((1 ≤ n) × (n ≤ 32))
 Bounds (FwdRdEnd ends) n = (ends ≤ 127) × ((1 ≤ n) × (n ≤ 32))
 Bounds (DataRdCrc count) n = ((1 ≤ count) × (count ≤ 256)) × (n ≡ 0)
 Bounds (DataRd count) n = ((1 ≤ count) × (count ≤ 256)) × (n ≡ 0)
-Bounds (RegWrCrc address) n = (1 ≤ n) × (address + n ≤ 11)
-Bounds (RegWr address) n = (1 ≤ n) × (address + n ≤ 11)
-Bounds (RegRdCrc address count) n = ((1 ≤ count) × (address + count ≤ 11)) × (n ≡ 0)
-Bounds (RegRd address count) n = ((1 ≤ count) × (address + count ≤ 11)) × (n ≡ 0)
+Bounds (RegWrCrc address) n = (1 ≤ n) × (address + n ≤ registersEnd)
+Bounds (RegWr address) n = (1 ≤ n) × (address + n ≤ registersEnd)
+Bounds (RegRdCrc address count) n = ((1 ≤ count) × (address + count ≤ registersEnd)) × (n ≡ 0)
+Bounds (RegRd address count) n = ((1 ≤ count) × (address + count ≤ registersEnd)) × (n ≡ 0)
 Bounds SoftResetCrc n = n ≡ 0
 
 both-le : (a b m n : ℕ) → (leb a b && leb m n) ≡ true → (a ≤ b) × (m ≤ n)
@@ -49,19 +49,19 @@ bounds (FwdRdEndCrc ends) n h = (le-and ends 127 (leb 1 n && leb n 32) h, both-l
 bounds (FwdRdEnd ends) n h = (le-and ends 127 (leb 1 n && leb n 32) h, both-le 1 n n 32 (and-r (leb ends 127) (leb 1 n && leb n 32) h))
 bounds (DataRdCrc count) n h = (both-le 1 count count 256 (and-l (leb 1 count && leb count 256) (eqb n 0) h), none (leb 1 count && leb count 256) n h)
 bounds (DataRd count) n h = (both-le 1 count count 256 (and-l (leb 1 count && leb count 256) (eqb n 0) h), none (leb 1 count && leb count 256) n h)
-bounds (RegWrCrc address) n h = both-le 1 n (address + n) 11 (and-r (ltb address 11) (leb 1 n && leb (address + n) 11) h)
-bounds (RegWr address) n h = both-le 1 n (address + n) 11 (and-r (ltb address 11) (leb 1 n && leb (address + n) 11) h)
-bounds (RegRdCrc address count) n h = (both-le 1 count (address + count) 11 (and-l (leb 1 count && leb (address + count) 11) (eqb n 0) h), none (leb 1 count && leb (address + count) 11) n h)
-bounds (RegRd address count) n h = (both-le 1 count (address + count) 11 (and-l (leb 1 count && leb (address + count) 11) (eqb n 0) h), none (leb 1 count && leb (address + count) 11) n h)
+bounds (RegWrCrc address) n h = both-le 1 n (address + n) registersEnd (and-r (ltb address registersEnd) (leb 1 n && leb (address + n) registersEnd) h)
+bounds (RegWr address) n h = both-le 1 n (address + n) registersEnd (and-r (ltb address registersEnd) (leb 1 n && leb (address + n) registersEnd) h)
+bounds (RegRdCrc address count) n h = (both-le 1 count (address + count) registersEnd (and-l (leb 1 count && leb (address + count) registersEnd) (eqb n 0) h), none (leb 1 count && leb (address + count) registersEnd) n h)
+bounds (RegRd address count) n h = (both-le 1 count (address + count) registersEnd (and-l (leb 1 count && leb (address + count) registersEnd) (eqb n 0) h), none (leb 1 count && leb (address + count) registersEnd) n h)
 bounds SoftResetCrc n h = eqb-true n 0 h
 
 -- a span of registers by its low bits (`command`'s `spans`)
-span-ok : (low address count : ℕ) → low ≡ (count - 1) * 256 + address → 1 ≤ count → address + count ≤ 11
-    → (eqb (low / 16 % 16) 0 && leb (low % 16 + (low / 256 + 1)) 11) ≡ true
+span-ok : (low address count : ℕ) → low ≡ (count - 1) * 256 + address → 1 ≤ count → address + count ≤ registersEnd
+    → (eqb (low / 16 % 16) 0 && leb (low % 16 + (low / 256 + 1)) registersEnd) ≡ true
 span-ok low address count e h k =
-    and-both _ _ (eq-eqb (low / 16 % 16) 0 (omega arith)) (le-leb (low % 16 + (low / 256 + 1)) 11 (omega arith))
+    and-both _ _ (eq-eqb (low / 16 % 16) 0 (omega arith)) (le-leb (low % 16 + (low / 256 + 1)) registersEnd (omega arith))
 
-module _ (crc : Bool) (low address count : ℕ) (e : low ≡ (count - 1) * 256 + address) (h : 1 ≤ count) (k : address + count ≤ 11) where
+module _ (crc : Bool) (low address count : ℕ) (e : low ≡ (count - 1) * 256 + address) (h : 1 ≤ count) (k : address + count ≤ registersEnd) where
   a-is : address ≡ low % 16
   a-is = omega arith
 

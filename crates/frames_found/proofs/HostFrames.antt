@@ -7,6 +7,7 @@ use native.Mathlib.Omega.{arith}
 use lib.Dec.{ltb, leb, eqb}
 use lib.ListN.{length}
 use borrow.Author.Tests.{le-leb, ltb-true}
+use Rattle.command.specs.Layout.{registersEnd}
 use Rattle.base.specs.Pick.{pick-true, and-both}
 use Rattle.frames.specs.Orders.{fieldsWithin, within}
 use Rattle.frames.specs.Frames.{beside, frameOf, over, out, writtenOf}
@@ -36,11 +37,11 @@ module _ (ends : ℕ) (h : leb ends 127 ≡ true) where
   ends-and-one : (leb ends 127 && (leb 1 1 && leb 1 32)) ≡ true
   ends-and-one = and-both (leb ends 127) (leb 1 1 && leb 1 32) h refl
 
-one-register : (address : ℕ) → ltb address 11 ≡ true → (ltb address 11 && (leb 1 1 && leb (address + 1) 11)) ≡ true
+one-register : (address : ℕ) → ltb address registersEnd ≡ true → (ltb address registersEnd && (leb 1 1 && leb (address + 1) registersEnd)) ≡ true
 one-register address h =
-    let l = ltb-true address 11 h in
-    and-both (ltb address 11) (leb 1 1 && leb (address + 1) 11) h
-    (and-both (leb 1 1) (leb (address + 1) 11) refl (le-leb (address + 1) 11 (omega (arith, l))))
+    let l = ltb-true address registersEnd h in
+    and-both (ltb address registersEnd) (leb 1 1 && leb (address + 1) registersEnd) h
+    (and-both (leb 1 1) (leb (address + 1) registersEnd) refl (le-leb (address + 1) registersEnd (omega (arith, l))))
 
 answerable : (o : Order) → fieldsWithin o ≡ true → SomeWords o
 answerable FwdWrCrc h = record { some = 1; allowed = refl }
@@ -53,8 +54,8 @@ answerable (DataRdCrc count) h = record { some = 0; allowed = and-both (leb 1 co
 answerable (DataRd count) h = record { some = 0; allowed = and-both (leb 1 count && leb count 256) (eqb 0 0) h refl }
 answerable (RegWrCrc address) h = record { some = 1; allowed = one-register address h }
 answerable (RegWr address) h = record { some = 1; allowed = one-register address h }
-answerable (RegRdCrc address count) h = record { some = 0; allowed = and-both (leb 1 count && leb (address + count) 11) (eqb 0 0) h refl }
-answerable (RegRd address count) h = record { some = 0; allowed = and-both (leb 1 count && leb (address + count) 11) (eqb 0 0) h refl }
+answerable (RegRdCrc address count) h = record { some = 0; allowed = and-both (leb 1 count && leb (address + count) registersEnd) (eqb 0 0) h refl }
+answerable (RegRd address count) h = record { some = 0; allowed = and-both (leb 1 count && leb (address + count) registersEnd) (eqb 0 0) h refl }
 answerable SoftResetCrc h = record { some = 0; allowed = refl }
 
 pub host-frames : HostFrames

@@ -10,7 +10,7 @@ use borrow.Author.Tests.{le-leb, lt-ltb, eq-eqb, leb-true, ltb-true, eqb-true}
 use Rattle.base.specs.Pick.{pick-keeps, and-l, and-r, and-both}
 use Rattle.base.specs.Truth.{never}
 use Rattle.crc16.specs.Crc.{crcOf}
-use Rattle.command.specs.Layout.{spans, byNumber, rows, write, writeEnds, readEnds, dataRead, registerWrite, registerRead, softReset, decodeOurs}
+use Rattle.command.specs.Layout.{spans, byNumber, rows, write, writeEnds, readEnds, dataRead, registerWrite, registerRead, softReset, decodeOurs, registersEnd}
 use Rattle.command.specs.declared.Command.{Command}
 use Rattle.command.specs.declared.Command.the-variants.{Malformed}
 use Rattle.state.specs.Frame.{dataWords}
@@ -61,10 +61,10 @@ ends-of F ends n h = let e : (ends * 32 + n) / 32 ≡ ends = omega arith in ap F
 count-of : (F : ℕ → Order) (count : ℕ) → 1 ≤ count → F (count - 1 + 1) ≡ F count
 count-of F count h = let e : count - 1 + 1 ≡ count = omega arith in ap F e
 
-address-of : (F : ℕ → Order) (k address : ℕ) → address ≤ 10 → F ((k * 256 + address) % 16) ≡ F address
+address-of : (F : ℕ → Order) (k address : ℕ) → address < registersEnd → F ((k * 256 + address) % 16) ≡ F address
 address-of F k address h = let e : (k * 256 + address) % 16 ≡ address = omega arith in ap F e
 
-span-of : (F : ℕ → ℕ → Order) (count address : ℕ) → 1 ≤ count → address ≤ 10
+span-of : (F : ℕ → ℕ → Order) (count address : ℕ) → 1 ≤ count → address < registersEnd
     → F (((count - 1) * 256 + address) % 16) (((count - 1) * 256 + address) / 256 + 1) ≡ F address count
 span-of F count address k h =
     let a : ((count - 1) * 256 + address) % 16 ≡ address = omega arith in
@@ -168,23 +168,23 @@ module _ (low : ℕ) (h : low < 4096) where
   -- 10 to 13
   module _ (t : spans low ≡ true) where
     zero-bits : low / 16 % 16 ≡ 0
-    zero-bits = eqb-true (low / 16 % 16) 0 (and-l (eqb (low / 16 % 16) 0) (leb (low % 16 + (low / 256 + 1)) 11) t)
+    zero-bits = eqb-true (low / 16 % 16) 0 (and-l (eqb (low / 16 % 16) 0) (leb (low % 16 + (low / 256 + 1)) registersEnd) t)
 
-    within-end : low % 16 + (low / 256 + 1) ≤ 11
-    within-end = leb-true (low % 16 + (low / 256 + 1)) 11 (and-r (eqb (low / 16 % 16) 0) (leb (low % 16 + (low / 256 + 1)) 11) t)
+    within-end : low % 16 + (low / 256 + 1) ≤ registersEnd
+    within-end = leb-true (low % 16 + (low / 256 + 1)) registersEnd (and-r (eqb (low / 16 % 16) 0) (leb (low % 16 + (low / 256 + 1)) registersEnd) t)
 
-    span-allowed : (leb 1 (low / 256 + 1) && leb (low % 16 + (low / 256 + 1)) 11) ≡ true
+    span-allowed : (leb 1 (low / 256 + 1) && leb (low % 16 + (low / 256 + 1)) registersEnd) ≡ true
     span-allowed =
-        and-both (leb 1 (low / 256 + 1)) (leb (low % 16 + (low / 256 + 1)) 11) (le-leb 1 (low / 256 + 1) (omega arith))
-        (le-leb (low % 16 + (low / 256 + 1)) 11 within-end)
+        and-both (leb 1 (low / 256 + 1)) (leb (low % 16 + (low / 256 + 1)) registersEnd) (le-leb 1 (low / 256 + 1) (omega arith))
+        (le-leb (low % 16 + (low / 256 + 1)) registersEnd within-end)
 
-    write-allowed : (ltb (low % 16) 11 && (leb 1 (low / 256 + 1) && leb (low % 16 + (low / 256 + 1)) 11)) ≡ true
+    write-allowed : (ltb (low % 16) registersEnd && (leb 1 (low / 256 + 1) && leb (low % 16 + (low / 256 + 1)) registersEnd)) ≡ true
     write-allowed =
-        and-both (ltb (low % 16) 11) (leb 1 (low / 256 + 1) && leb (low % 16 + (low / 256 + 1)) 11)
-        (lt-ltb (low % 16) 11 (omega (arith, within-end))) span-allowed
+        and-both (ltb (low % 16) registersEnd) (leb 1 (low / 256 + 1) && leb (low % 16 + (low / 256 + 1)) registersEnd)
+        (lt-ltb (low % 16) registersEnd (omega (arith, within-end))) span-allowed
 
-    read-allowed : ((leb 1 (low / 256 + 1) && leb (low % 16 + (low / 256 + 1)) 11) && eqb 0 0) ≡ true
-    read-allowed = and-both (leb 1 (low / 256 + 1) && leb (low % 16 + (low / 256 + 1)) 11) (eqb 0 0) span-allowed (eq-eqb 0 0 refl)
+    read-allowed : ((leb 1 (low / 256 + 1) && leb (low % 16 + (low / 256 + 1)) registersEnd) && eqb 0 0) ≡ true
+    read-allowed = and-both (leb 1 (low / 256 + 1) && leb (low % 16 + (low / 256 + 1)) registersEnd) (eqb 0 0) span-allowed (eq-eqb 0 0 refl)
 
     span-word : (k : ℕ) → k * 4096 + ((low / 256 + 1 - 1) * 256 + low % 16) ≡ k * 4096 + low
     span-word k = omega (arith, zero-bits)

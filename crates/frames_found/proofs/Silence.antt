@@ -7,6 +7,7 @@ use native.Mathlib.Omega.{arith}
 use lib.Dec.{leb, eqb}
 use lib.ListN.{length, getD, take, replicate, length-replicate, getD-replicate}
 use borrow.Author.Tests.{leb-true, le-leb, eqb-true, not-true, eqb-false}
+use Rattle.command.specs.Layout.{registersEnd}
 use Rattle.base.specs.Bits.{allOnes, val, odd, bit, highFirst}
 use Rattle.base.specs.Pick.{pick, pick-keeps, and-l, and-r, and-both}
 use Rattle.crc16.specs.Crc.{shift, crcBit, crcBits, crcWord, crcFrom, crcOf}
@@ -74,10 +75,10 @@ module _ (n : ℕ) where
   unfolding toldBy pick
   no-status = rw (no-answer 0 (omega arith))
 
-  spanned : (address count : ℕ) → (leb 1 count && leb (address + count) 11) ≡ true → (leb 1 count && leb count 256) ≡ true
+  spanned : (address count : ℕ) → (leb 1 count && leb (address + count) registersEnd) ≡ true → (leb 1 count && leb count 256) ≡ true
   spanned address count h =
-      let b = leb-true (address + count) 11 (and-r (leb 1 count) (leb (address + count) 11) h) in
-      and-both (leb 1 count) (leb count 256) (and-l (leb 1 count) (leb (address + count) 11) h) (le-leb count 256 (omega (arith, b)))
+      let b = leb-true (address + count) registersEnd (and-r (leb 1 count) (leb (address + count) registersEnd) h) in
+      and-both (leb 1 count) (leb count 256) (and-l (leb 1 count) (leb (address + count) registersEnd) h) (le-leb count 256 (omega (arith, b)))
 
   silent-due : (o : Order) → fieldsWithin o ≡ true → toldBy (answerOf o) (replicate n allOnes) ≡ Refused
   silent-due FwdWrCrc h = no-status

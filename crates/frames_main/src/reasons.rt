@@ -76,7 +76,7 @@ fn print_line(list: &[u8], number: usize) {
 fn tell_outside(command: usize, answer: bool, words: u64) {
     print(b"expected ");
     print_line(
-        b"\n\n1 to 512 words\n1 to 4096 words\nends 0 to 127, 0 to 31 words\nends 0 to 127, 0 to 31 words\nends 0 to 127, 1 to 32 words\nends 0 to 127, 1 to 32 words\ncount 1 to 256, no words\ncount 1 to 256, no words\naddress 0 to 10, 1 to 11 words, address + words at most 11\naddress 0 to 10, 1 to 11 words, address + words at most 11\naddress 0 to 10, count 1 to 11, address + count at most 11, no words\naddress 0 to 10, count 1 to 11, address + count at most 11, no words\nno words",
+        b"\n\n1 to 512 words\n1 to 4096 words\nends 0 to 127, 0 to 31 words\nends 0 to 127, 0 to 31 words\nends 0 to 127, 1 to 32 words\nends 0 to 127, 1 to 32 words\ncount 1 to 256, no words\ncount 1 to 256, no words\naddress 0 to 11, 1 to 12 words, address + words at most 12\naddress 0 to 11, 1 to 12 words, address + words at most 12\naddress 0 to 11, count 1 to 12, address + count at most 12, no words\naddress 0 to 11, count 1 to 12, address + count at most 12, no words\nno words",
         command,
     );
     if answer {

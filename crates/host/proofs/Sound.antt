@@ -26,17 +26,17 @@ module _ (command : Command) (at : Progress) (s : collectSound command at ≡ tr
       let m : words ≤ 4096 = leb-true _ _ (search (and-l, and-r) depth 30) in
       omega arith
 
-  pub register-span : (crc : Bool) (address count : ℕ) → command ≡ RegisterWrite crc address count → address + count ≤ 11
+  pub register-span : (crc : Bool) (address count : ℕ) → command ≡ RegisterWrite crc address count → address + count ≤ 12
   unfolding collectSound
   register-span crc address count h =
-      let t : (leb (at .got) count && eqb (at .mine) 0 && not (at .released) && ltb 0 count && leb (address + count) 11) ≡ true = rw h at s in
+      let t : (leb (at .got) count && eqb (at .mine) 0 && not (at .released) && ltb 0 count && leb (address + count) 12) ≡ true = rw h at s in
       leb-true _ _ (search (and-l, and-r) depth 30)
 
   pub register-room : (crc : Bool) (address count : ℕ) → command ≡ RegisterWrite crc address count → at .got < dataWords command
-      → address + at .got < 11
+      → address + at .got < 12
   register-room crc address count h g =
       let l : at .got < count = rw h at g in
-      let m : address + count ≤ 11 = register-span crc address count h in
+      let m : address + count ≤ 12 = register-span crc address count h in
       omega arith
 
 -- the CRC so far is not asked about

@@ -80,7 +80,7 @@ fn register_data(
     at: Progress,
     word: u16,
 ) -> Plan
-    requires { ⌜ address + at .got < 11 ⌝ }
+    requires { ⌜ address + at .got < 12 ⌝ }
     ensures { λ r. ⌜ r ≡ dataWord bridge (Command.RegisterWrite crc address count) at word ⌝ }
 {
     let got = at.got;

@@ -47,7 +47,7 @@ use Rattle.state.specs.declared.Phase.the-variants.{Idle, Collecting, Answering
 use Rattle.state.specs.declared.Reply.{Reply}
 use Rattle.state.specs.declared.Reply.the-variants.{Status, Data, Registers, Check}
 use Rattle.rules.specs.Facts.{ControlRules}
-use Rattle.frame_rules.specs.Frames.{otpSound, drdySound, isUnmarked}
+use Rattle.frame_rules.specs.Frames.{otpSound, drdySound, badWordSound, isUnmarked}
 use Rattle.state.specs.Frame.{isForward}
 use Rattle.base.specs.Truth.{or-true, or-left, and-none, and-not}
 use Rattle.state.specs.declared.Queue.{Queue}
@@ -79,9 +79,9 @@ settled-regs c count ended = refl
 
 -- what is settled keeps the rules, if it keeps those of flags and frame
 pub settled-control : (c : Control) (count : ℕ) (ended : Bool) (p : Phase) → otpSound (c .mode) (c .flags .otp) ≡ true
-    → (blocking (c .flags) && isUnmarked p) ≡ false → ControlRules (settled c count ended) count p
+    → badWordSound (c .flags) ≡ true → (blocking (c .flags) && isUnmarked p) ≡ false → ControlRules (settled c count ended) count p
 unfolding settled
-settled-control c count ended p o m = record { otp = o; drdy = settled-ready c count ended; marked = m }
+settled-control c count ended p o n m = record { otp = o; drdy = settled-ready c count ended; word = n; marked = m }
 
 -- 2. What a plan may raise.
 
@@ -103,6 +103,7 @@ isReset ResetAll = true
 -- a blocking flag rises with a transmit clear, an RX flag with a stop; "Soft reset (note 0): both, without the END, and reader to idle"
 pub record Rises (b : Bridge) (p : Plan) : Type 0 where
   pub otp : otpSound (p .control .mode) (p .control .flags .otp) ≡ true
+  pub word : badWordSound (p .control .flags) ≡ true
   pub marked : (blocking (p .control .flags) && isUnmarked (p .phase)) ≡ false
   pub hears : rxff (p .control .flags) ≡ true → (rxff (b .control .flags) || stops (p .receive)) ≡ true
   pub resets : isReset (p .deed) ≡ true → p .receive ≡ ResetRx
@@ -111,22 +112,28 @@ pub record Rises (b : Bridge) (p : Plan) : Type 0 where
 
 record Tame (c d : Control) : Type 0 where
   otp : otpSound (c .mode) (c .flags .otp) ≡ true → otpSound (d .mode) (d .flags .otp) ≡ true
+  word : badWordSound (c .flags) ≡ true → badWordSound (d .flags) ≡ true
   blocks : blocking (d .flags) ≡ true → blocking (c .flags) ≡ true
   hears : rxff (d .flags) ≡ true → rxff (c .flags) ≡ true
 
 tame-same : (c : Control) → Tame c c
-tame-same c = record { otp = λ h. h; blocks = λ h. h; hears = λ h. h }
+tame-same c = record { otp = λ h. h; word = λ h. h; blocks = λ h. h; hears = λ h. h }
 
 tame-then : (c d e : Control) → Tame c d → Tame d e → Tame c e
-tame-then c d e s t = record { otp = λ h. t .otp (s .otp h); blocks = λ h. s .blocks (t .blocks h); hears = λ h. s .hears (t .hears h) }
+tame-then c d e s t = record {
+  otp = λ h. t .otp (s .otp h);
+  word = λ h. t .word (s .word h);
+  blocks = λ h. s .blocks (t .blocks h);
+  hears = λ h. s .hears (t .hears h);
+}
 
 tame-regs : (c : Control) (r : Regs) → Tame c (withRegs c r)
-tame-regs c r = record { otp = λ h. h; blocks = λ h. h; hears = λ h. h }
+tame-regs c r = record { otp = λ h. h; word = λ h. h; blocks = λ h. h; hears = λ h. h }
 
 -- a flag that is neither
 tame-raised : (c : Control) (n : Flag) → blocking (raised (c .flags) n) ≡ blocking (c .flags) → rxff (raised (c .flags) n) ≡ rxff (c .flags)
     → Tame c (raisedIn c n)
-tame-raised c n e f = record { otp = λ h. unfold raised in h; blocks = λ h. sym e ∙ h; hears = λ h. sym f ∙ h }
+tame-raised c n e f = record { otp = λ h. unfold raised in h; word = λ h. unfold raised in h; blocks = λ h. sym e ∙ h; hears = λ h. sym f ∙ h }
 
 -- "Bad OTP stays in INIT"
 mode-otp : (m : Mode) (otp : Bool) (v : ℕ) → otpSound m otp ≡ true → otpSound (modeAfter m v) otp ≡ true
@@ -148,12 +155,13 @@ write-tame c busy (suc (suc (suc zero))) v = tame-regs c _
 write-tame c busy (suc (suc (suc (suc zero)))) v = tame-regs c _
 write-tame c busy (suc (suc (suc (suc (suc zero))))) v = record {
   otp = λ h. mode-otp (c .mode) (c .flags .otp) _ h;
+  word = λ h. h;
   blocks = λ h. h;
   hears = λ h. h;
 }
 write-tame c busy (suc (suc (suc (suc (suc (suc zero)))))) v = tame-regs c _
 write-tame c busy (suc (suc (suc (suc (suc (suc (suc zero))))))) v =
-    pick-keeps (Tamely c) _ _ _ (λ h. record { otp = λ e. e; blocks = λ e. cc; hears = λ e. cc }) (λ h. tame-same c)
+    pick-keeps (Tamely c) _ _ _ (λ h. record { otp = λ e. e; word = λ e. refl; blocks = λ e. cc; hears = λ e. cc }) (λ h. tame-same c)
 write-tame c busy (suc (suc (suc (suc (suc (suc (suc (suc a)))))))) v = tame-same c
 
 write-all-tame : (c : Control) (e : Effects) (busy : Bool) (address : ℕ) (vs : List ℕ) → Tame c (e .control)
@@ -167,6 +175,7 @@ write-all-tame c e busy address (v ∷ vs) t =
 
 record Pays (c : Control) (g : Granted) : Type 0 where
   otp : otpSound (c .mode) (c .flags .otp) ≡ true → otpSound (faulted c (g .note) .mode) (faulted c (g .note) .flags .otp) ≡ true
+  word : badWordSound (c .flags) ≡ true → badWordSound (faulted c (g .note) .flags) ≡ true
   blocks : blocking (faulted c (g .note) .flags) ≡ true → (blocking (c .flags) || clears (g .deed)) ≡ true
   hears : rxff (faulted c (g .note) .flags) ≡ true → rxff (c .flags) ≡ true
   stands : isReset (g .deed) ≡ false
@@ -174,19 +183,20 @@ record Pays (c : Control) (g : Granted) : Type 0 where
 guard-pays : (c : Control) (blocked : Bool) (count : ℕ) (q : Queue) (w : Wish) → Pays c (guard blocked count q w)
 unfolding guard faulted raised clears isReset
 guard-pays c blocked count q w =
-    pick-keeps (Pays c) _ _ _ (λ h. record { otp = λ e. e; blocks = λ e. or-left _ _ e; hears = λ e. e; stands = refl })
-    (λ h. pick-keeps (Pays c) _ _ _ (λ k. record { otp = λ e. e; blocks = λ e. or-true (blocking (c .flags)); hears = λ e. e; stands = refl })
+    pick-keeps (Pays c) _ _ _ (λ h. record { otp = λ e. e; word = λ e. e; blocks = λ e. or-left _ _ e; hears = λ e. e; stands = refl })
+    (λ h. pick-keeps (Pays c) _ _ _ (λ k. record { otp = λ e. e; word = λ e. e; blocks = λ e. or-true (blocking (c .flags)); hears = λ e. e; stands = refl })
     (λ k. pick-keeps (Pays c) _ _ _
-    (λ r. pick-keeps (Pays c) _ _ _ (λ u. record { otp = λ e. e; blocks = λ e. or-true (blocking (c .flags)); hears = λ e. e; stands = refl })
-    (λ u. record { otp = λ e. e; blocks = λ e. or-left _ _ e; hears = λ e. e; stands = refl }))
-    (λ r. record { otp = λ e. e; blocks = λ e. or-left _ _ e; hears = λ e. e; stands = refl })))
+    (λ r. pick-keeps (Pays c) _ _ _ (λ u. record { otp = λ e. e; word = λ e. e; blocks = λ e. or-true (blocking (c .flags)); hears = λ e. e; stands = refl })
+    (λ u. record { otp = λ e. e; word = λ e. e; blocks = λ e. or-left _ _ e; hears = λ e. e; stands = refl }))
+    (λ r. record { otp = λ e. e; word = λ e. e; blocks = λ e. or-left _ _ e; hears = λ e. e; stands = refl })))
 
 -- 5. The plans of a host word.
-module _ (b : Bridge) (o : otpSound (b .control .mode) (b .control .flags .otp) ≡ true) where
+module _ (b : Bridge) (o : otpSound (b .control .mode) (b .control .flags .otp) ≡ true) (n : badWordSound (b .control .flags) ≡ true) where
   tame-rises : (p : Plan) → Tame (b .control) (p .control) → isUnmarked (p .phase) ≡ false → (isReset (p .deed) ≡ true → p .receive ≡ ResetRx)
       → Rises b p
   tame-rises p t u r = record {
     otp = t .otp o;
+    word = t .word n;
     marked = and-none (blocking (p .control .flags)) _ u;
     hears = λ h. or-left _ _ (t .hears h);
     resets = r;
@@ -196,9 +206,9 @@ module _ (b : Bridge) (o : otpSound (b .control .mode) (b .control .flags .otp) 
   quiet-rises p t u r = tame-rises p t u (λ h. cc)
 
   -- a plan that only moves the phase
-  plain-rises : (p : Phase) (n : Note) → isUnmarked p ≡ false → Rises b (plain b p n)
+  plain-rises : (p : Phase) (note : Note) → isUnmarked p ≡ false → Rises b (plain b p note)
   unfolding isReset
-  plain-rises p n u = quiet-rises _ (tame-same _) u refl
+  plain-rises p note u = quiet-rises _ (tame-same _) u refl
 
   -- "a forward still being received is blocked"
   forwarded-rises : (f : Fwd) (at : Progress) (g : Granted) → (blocking (b .control .flags) && not (at .blocked)) ≡ false → Pays (b .control) g
@@ -206,6 +216,7 @@ module _ (b : Bridge) (o : otpSound (b .control .mode) (b .control .flags .otp) 
   unfolding forwarded isUnmarked
   forwarded-rises f at g m y = record {
     otp = y .otp o;
+    word = y .word n;
     marked = go (blocking (faulted (b .control) (g .note) .flags)) (blocking (b .control .flags)) (clears (g .deed)) (y .blocks) m;
     hears = λ h. or-left _ _ (y .hears h);
     resets = λ h. cc (y .stands);
@@ -266,6 +277,7 @@ module _ (b : Bridge) (o : otpSound (b .control .mode) (b .control .flags .otp) 
       let y = guard-pays (b .control) blocked (b .sending .tx .count) (b .sending .queue) _ in
       record {
         otp = y .otp o;
+        word = y .word n;
         marked = and-none (blocking (forwardClosed b crc words ends reads blocked .control .flags)) _ refl;
         hears = λ h. or-left _ _ (y .hears h);
         resets = λ h. cc (y .stands);
@@ -309,6 +321,7 @@ module _ (b : Bridge) (o : otpSound (b .control .mode) (b .control .flags .otp) 
   unfolding answerWith raised blocking isReset stops
   empty-rises p u = record {
     otp = o;
+    word = n;
     marked = and-none (blocking (b .control .flags)) _ u;
     hears = λ e. or-true (rxff (b .control .flags));
     resets = λ e. cc;
@@ -350,11 +363,11 @@ module _ (b : Bridge) (o : otpSound (b .control .mode) (b .control .flags .otp) 
 pub planned-rises : (l : Layout) (b : Bridge) (w x : ℕ) → ControlRules (b .control) (b .receiving .rx .count) (b .frame .phase)
     → Rises b (planned l b w x)
 unfolding planned
-planned-rises l b w x r = planned-in-rises b (r .otp) l (b .frame .phase) w x (r .marked)
+planned-rises l b w x r = planned-in-rises b (r .otp) (r .word) l (b .frame .phase) w x (r .marked)
 
 pub released-rises : (b : Bridge) → ControlRules (b .control) (b .receiving .rx .count) (b .frame .phase)
     → Rises b (releasedIn b (b .frame .phase))
-released-rises b r = released-in-rises b (r .otp) (b .frame .phase)
+released-rises b r = released-in-rises b (r .otp) (r .word) (b .frame .phase)
 
 -- 6. A plan carried out.
 
@@ -371,4 +384,4 @@ pub performed-control : (l : Layout) (b : Bridge) (clock : Clock) (p : Plan) →
     → ControlRules (performed l b clock p .control) (performed l b clock p .receiving .rx .count) (performed l b clock p .frame .phase)
 unfolding performed
 performed-control l b clock p r =
-    settled-control (p .control) _ false _ (r .otp) (concluded-marked l (p .status) (blocking (p .control .flags)) _ (p .phase) (r .marked))
+    settled-control (p .control) _ false _ (r .otp) (r .word) (concluded-marked l (p .status) (blocking (p .control .flags)) _ (p .phase) (r .marked))

@@ -17,8 +17,8 @@ commandFits Filler = true
 commandFits Malformed = true
 commandFits (Forward crc words ends reads) = leb words 4096 && leb ends 127
 commandFits (DataRead crc words) = ltb 0 words && leb words 256
-commandFits (RegisterWrite crc address count) = ltb 0 count && leb (address + count) 11
-commandFits (RegisterRead crc address count) = ltb 0 count && leb (address + count) 11
+commandFits (RegisterWrite crc address count) = ltb 0 count && leb (address + count) 12
+commandFits (RegisterRead crc address count) = ltb 0 count && leb (address + count) 12
 commandFits SoftReset = true
 
 abbrev pub LayoutFit : Layout → Type 0

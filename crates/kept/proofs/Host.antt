@@ -249,7 +249,7 @@ module _ (b : Bridge) (g : regsSound (b .control .regs) ≡ true) where
       let m : eqb mine 0 ≡ true = search (and-l, and-r) in
       let n : not released ≡ true = search (and-l, and-r) in
       let z : ltb 0 count ≡ true = search (and-l, and-r) in
-      let k : leb (address + count) 11 ≡ true = search (and-l, and-r) in
+      let k : leb (address + count) 12 ≡ true = search (and-l, and-r) in
       record {
         owes = unreleased-owes-none _ _ _ _ (not-true released n);
         owns = eqb-true mine 0 m;
@@ -358,7 +358,7 @@ module _ (b : Bridge) (g : regsSound (b .control .regs) ≡ true) where
           (λ e. wrong-rules crc mine k (λ c. eqb-true mine 0 m))
       go (RegisterRead crc address count) k s h =
           read-closed-rules l crc right (Registers address count) (bare (search (and-l, and-r)) k)
-          (and-both (ltb 0 count) (leb (address + count) 11) (search (and-l, and-r)) (search (and-l, and-r)))
+          (and-both (ltb 0 count) (leb (address + count) 12) (search (and-l, and-r)) (search (and-l, and-r)))
       go SoftReset k s h =
           let m : eqb mine 0 ≡ true = search (and-l, and-r) in
           pick-keeps (PlanRules b) right _ _ (λ e. reset-closed-rules (bare m k)) (λ e. wrong-rules true mine k (λ c. eqb-true mine 0 m))
@@ -383,8 +383,8 @@ module _ (b : Bridge) (g : regsSound (b .control .regs) ≡ true) where
       let next : replySound (pick (leb left 1) Check (Registers (address + 1) (left - 1))) ≡ true
       = pick-keeps (λ (q : Reply). replySound q ≡ true) (leb left 1) Check (Registers (address + 1) (left - 1)) (λ h. refl)
       (λ h. let n : 1 < left = leb-false _ _ h in
-      let k : address + left ≤ 11 = leb-true _ _ (search (and-l, and-r)) in
-      and-both _ _ (lt-ltb 0 (left - 1) (omega arith)) (le-leb (address + 1 + (left - 1)) 11 (omega arith))) in
+      let k : address + left ≤ 12 = leb-true _ _ (search (and-l, and-r)) in
+      and-both _ _ (lt-ltb 0 (left - 1) (omega arith)) (le-leb (address + 1 + (left - 1)) 12 (omega arith))) in
       record { leaves = stays (b .sending) _ r (bare-answer _ _ next); regs = g; ending = λ e. cc }
   answered-rules l Check sum x r s = record { leaves = stays (b .sending) Idle r bare-idle; regs = g; ending = λ e. cc }
 

@@ -20,9 +20,8 @@ use Rattle.line.specs.declared.Found.the-variants.{Nothing, Start, Word, End, C
 use Rattle.line.specs.declared.Heard.{Heard}
 use Rattle.reader.specs.Reader.{isClaim, began, placeRead, wordRead, errorRead, endRead, wordTaken, atEnd, ended, takenBy, tickReader}
 use Rattle.reader.specs.declared.Taken.{Taken}
-use Rattle.registers.specs.Raising.{raised}
+use Rattle.registers.specs.Raising.{wentBad}
 use Rattle.registers.specs.Registers.{rxff}
-use Rattle.registers.specs.declared.Flag.the-variants.{CheckBit}
 use Rattle.registers.specs.declared.Flags.{Flags}
 use Rattle.rules.specs.Facts.{Standing}
 use Rattle.line_rules.specs.Line.{isUnread, heardMarks, marksSound}
@@ -66,27 +65,27 @@ heard-carried false false u v s t x y a c h = refl
 marks-heard : (e : Ear) (r : Reader) (q : Queue) (f : Flags) → isQuiet e ≡ false → marksSound e r q f ≡ heardMarks r q f
 unfolding marksSound isQuiet
 marks-heard Quiet r q f h = cc
-marks-heard (Group value bits ones) r q f h = refl
+marks-heard (Group number value bits ones) r q f h = refl
 marks-heard (Lost ones) r q f h = refl
 
 marks-ear : (d e : Ear) (r : Reader) (q : Queue) (f : Flags) → isQuiet e ≡ isQuiet d → marksSound d r q f ≡ true
     → marksSound e (record { ear = e; belongs = r .belongs; storing = r .storing; stored = r .stored }) q f ≡ true
 unfolding marksSound isQuiet
 marks-ear Quiet Quiet r q f x h = h
-marks-ear Quiet (Group value bits ones) r q f x h = cc
+marks-ear Quiet (Group number value bits ones) r q f x h = cc
 marks-ear Quiet (Lost ones) r q f x h = cc
-marks-ear (Group value bits ones) Quiet r q f x h = cc
-marks-ear (Group value bits ones) (Group v b o) r q f x h = h
-marks-ear (Group value bits ones) (Lost o) r q f x h = h
+marks-ear (Group number value bits ones) Quiet r q f x h = cc
+marks-ear (Group number value bits ones) (Group n v b o) r q f x h = h
+marks-ear (Group number value bits ones) (Lost o) r q f x h = h
 marks-ear (Lost ones) Quiet r q f x h = cc
-marks-ear (Lost ones) (Group v b o) r q f x h = h
+marks-ear (Lost ones) (Group n v b o) r q f x h = h
 marks-ear (Lost ones) (Lost o) r q f x h = h
 
 marks-carried : (e : Ear) (r : Reader) (q p : Queue) (f g : Flags) → Unread q p → (rxff g ≡ true → rxff f ≡ true) → marksSound e r q f ≡ true
     → marksSound e r p g ≡ true
 unfolding marksSound
 marks-carried Quiet r q p f g u x h = h
-marks-carried (Group value bits ones) r q p f g u x h = heard-carried (r .belongs) (r .storing) _ _ _ _ _ _ u x h
+marks-carried (Group number value bits ones) r q p f g u x h = heard-carried (r .belongs) (r .storing) _ _ _ _ _ _ u x h
 marks-carried (Lost ones) r q p f g u x h = heard-carried (r .belongs) (r .storing) _ _ _ _ _ _ u x h
 
 -- 2. A host's plan.
@@ -97,7 +96,7 @@ with r belongs storing = record { ear = r .ear; belongs = belongs; storing = sto
 marks-cleared : (e : Ear) (r : Reader) (q p : Queue) (f : Flags) → marksSound e r q f ≡ true → marksSound e (with r false false) p f ≡ true
 unfolding marksSound
 marks-cleared Quiet r q p f h = and-r (not (r .belongs) && not (r .storing)) _ h
-marks-cleared (Group value bits ones) r q p f h = refl
+marks-cleared (Group number value bits ones) r q p f h = refl
 marks-cleared (Lost ones) r q p f h = refl
 
 marks-stopped : (e : Ear) (r : Reader) (q : Queue) (f g : Flags) → marksSound e r q f ≡ true → marksSound e (with r (r .belongs) false) q g ≡ true
@@ -105,7 +104,7 @@ unfolding marksSound
 marks-stopped Quiet r q f g h =
     let a : not (r .belongs) ≡ true = search (and-l, and-r) in
     let b : not (r .stored) ≡ true = search (and-l, and-r) in rw (a, b)
-marks-stopped (Group value bits ones) r q f g h = rw (and-l (not (r .belongs) || isUnread q) _ h)
+marks-stopped (Group number value bits ones) r q f g h = rw (and-l (not (r .belongs) || isUnread q) _ h)
 marks-stopped (Lost ones) r q f g h = rw (and-l (not (r .belongs) || isUnread q) _ h)
 
 abbrev Marked : Receiving → Queue → Flags → Type 0
@@ -195,7 +194,7 @@ Turns d e Nothing = isQuiet e ≡ isQuiet d
 Turns d e Start = isQuiet e ≡ false
 Turns d e (Word w) = (isQuiet d ≡ false) × (isQuiet e ≡ false)
 Turns d e End = e ≡ Quiet
-Turns d e CheckError = (isQuiet d ≡ false) × (isQuiet e ≡ false)
+Turns d e (CheckError n) = (isQuiet d ≡ false) × (isQuiet e ≡ false)
 Turns d e Over = e ≡ Quiet
 
 abbrev TurnsTo : Ear → Heard → Type 0
@@ -204,12 +203,12 @@ TurnsTo d h = Turns d (h .ear) (h .found)
 hear-turns : (d : Ear) (b : Bool) → TurnsTo d (hear d b)
 unfolding hear inGroup inLost atCheck isQuiet
 hear-turns Quiet b = pick-keeps (TurnsTo Quiet) _ _ _ (λ c. refl) (λ c. refl)
-hear-turns (Group value bits ones) b =
-    pick-keeps (TurnsTo (Group value bits ones)) _ _ _ (λ c. refl)
-    (λ c. pick-keeps (TurnsTo (Group value bits ones)) _ _ _ (λ k. refl)
-    (λ k. pick-keeps (TurnsTo (Group value bits ones)) _ _ _ (λ m. (refl, refl))
-    (λ m. pick-keeps (TurnsTo (Group value bits ones)) _ _ _ (λ n. (refl, refl))
-    (λ n. pick-keeps (TurnsTo (Group value bits ones)) _ _ _ (λ o. refl) (λ o. (refl, refl))))))
+hear-turns (Group number value bits ones) b =
+    pick-keeps (TurnsTo (Group number value bits ones)) _ _ _ (λ c. refl)
+    (λ c. pick-keeps (TurnsTo (Group number value bits ones)) _ _ _ (λ k. refl)
+    (λ k. pick-keeps (TurnsTo (Group number value bits ones)) _ _ _ (λ m. (refl, refl))
+    (λ m. pick-keeps (TurnsTo (Group number value bits ones)) _ _ _ (λ n. (refl, refl))
+    (λ n. pick-keeps (TurnsTo (Group number value bits ones)) _ _ _ (λ o. refl) (λ o. (refl, refl))))))
 hear-turns (Lost ones) b = pick-keeps (TurnsTo (Lost ones)) _ _ _ (λ c. refl) (λ c. refl)
 
 either : (b : Bool) → (not b || b) ≡ true
@@ -244,13 +243,13 @@ module _ (r : Receiving) (q : Queue) (f : Flags) (g : QueueFit q) (l : length (q
       (λ c. rw (marks-heard e _ p _ n) (rw (and-l (not (r .reader .belongs) || isUnread p) _ m))))
       (λ k. rw (marks-heard e _ p f n) m)
 
-  error-marks : (e : Ear) → isQuiet (r .reader .ear) ≡ false → isQuiet e ≡ false → Goes (takenBy CheckError r q f e)
-  unfolding takenBy raised
-  error-marks e d n =
+  error-marks : (k : ℕ) (e : Ear) → isQuiet (r .reader .ear) ≡ false → isQuiet e ≡ false → Goes (takenBy (CheckError k) r q f e)
+  unfolding takenBy wentBad
+  error-marks k e d n =
       let p : Queue = errorRead (r .reader .belongs) q in
       rw (marks-heard e _ p _ n)
       (rw (marks-heard (r .reader .ear) (r .reader) p _ d) at
-      (marks-carried (r .reader .ear) (r .reader) q p f (raised f CheckBit) (error-unread q g l s (r .reader .belongs)) (λ x. x) h))
+      (marks-carried (r .reader .ear) (r .reader) q p f (wentBad f k) (error-unread q g l s (r .reader .belongs)) (λ x. x) h))
 
   ended-marks : (e : Ear) → e ≡ Quiet → Goes (ended r q f e)
   unfolding ended atEnd marksSound
@@ -262,7 +261,7 @@ module _ (r : Receiving) (q : Queue) (f : Flags) (g : QueueFit q) (l : length (q
   taken-marks Start e n = start-marks e n
   taken-marks (Word w) e n = word-marks e w (n .0) (n .1)
   taken-marks End e n = ended-marks e n
-  taken-marks CheckError e n = error-marks e (n .0) (n .1)
+  taken-marks (CheckError k) e n = error-marks k e (n .0) (n .1)
   taken-marks Over e n = ended-marks e n
 
   pub tick-marks : (sin : Bool) → Goes (tickReader r q f sin)
@@ -279,7 +278,7 @@ module _ (r : Receiving) (q : Queue) (f : Flags) (g : QueueFit q) (l : length (q
       (λ c. word-steady q g l s (r .reader .belongs) w))
       (λ k. word-steady q g l s (r .reader .belongs) w)
   taken-steady End e = end-steady q g l s (r .reader .belongs)
-  taken-steady CheckError e = error-steady q g l s (r .reader .belongs)
+  taken-steady (CheckError n) e = error-steady q g l s (r .reader .belongs)
   taken-steady Over e = end-steady q g l s (r .reader .belongs)
 
   pub tick-reader-steady : (sin : Bool) → Steady q (tickReader r q f sin .queue)

@@ -7,7 +7,7 @@ use lib.Dec.{leb, eqb}
 use lib.ListN.{length}
 use borrow.Author.Tests.{ltb-true, eqb-false, lt-ltb, le-leb}
 use Rattle.base.specs.Pick.{pick-keeps, and-r, and-both}
-use Rattle.line.specs.Reader.{heard, runOn, shiftIn, atCheck, inGroup, inLost, hear}
+use Rattle.line.specs.Reader.{heard, runOn, shiftIn, nextNumber, atCheck, inGroup, inLost, hear}
 use Rattle.line.specs.declared.Ear.{Ear}
 use Rattle.line.specs.declared.Ear.the-variants.{Quiet, Group, Lost}
 use Rattle.line.specs.declared.Found.{Found}
@@ -69,7 +69,7 @@ module _ (r : Receiving) (q : Queue) (f : Flags) (e : Ear) (x : RingFit 256 (r .
   taken-by-keeps Start = record { queue = kept-same q g l; rx = x; ear = refl }
   taken-by-keeps (Word w) = word-taken-keeps w
   taken-by-keeps End = ended-keeps
-  taken-by-keeps CheckError = record { queue = kept-error-read (r .reader .belongs) q g l; rx = x; ear = refl }
+  taken-by-keeps (CheckError n) = record { queue = kept-error-read (r .reader .belongs) q g l; rx = x; ear = refl }
   taken-by-keeps Over = ended-keeps
 
 -- a run below an END's eighteen, or the END
@@ -88,30 +88,30 @@ lost-sound : (ones : ℕ) (f : Found) → ones < 18 → EarKept (heard (Lost one
 unfolding earSound
 lost-sound ones f h = lt-ltb ones 18 h
 
-group-sound : (value bits ones : ℕ) (f : Found) → bits ≤ 17 → ones < 18 → EarKept (heard (Group value bits ones) f)
+group-sound : (n value bits ones : ℕ) (f : Found) → bits ≤ 17 → ones < 18 → EarKept (heard (Group n value bits ones) f)
 unfolding earSound
-group-sound value bits ones f b h = and-both _ _ (le-leb bits 17 b) (lt-ltb ones 18 h)
+group-sound n value bits ones f b h = and-both _ _ (le-leb bits 17 b) (lt-ltb ones 18 h)
 
 quiet-sound : (f : Found) → EarKept (heard Quiet f)
 unfolding earSound
 quiet-sound f = refl
 
-check-sound : (value bits ones : ℕ) (b : Bool) → ones < 18 → EarKept (atCheck value bits ones b)
+check-sound : (n value bits ones : ℕ) (b : Bool) → ones < 18 → EarKept (atCheck n value bits ones b)
 unfolding atCheck
-check-sound value bits ones b h =
-    pick-keeps EarKept _ _ _ (λ c. lost-sound ones CheckError h)
-    (λ c. pick-keeps EarKept _ _ _ (λ d. group-sound 0 0 ones (Word value) (omega arith) h)
-    (λ d. pick-keeps EarKept _ _ _ (λ e. group-sound value 17 ones Nothing (omega arith) h) (λ e. lost-sound ones CheckError h)))
+check-sound n value bits ones b h =
+    pick-keeps EarKept _ _ _ (λ c. lost-sound ones (CheckError n) h)
+    (λ c. pick-keeps EarKept _ _ _ (λ d. group-sound (nextNumber n) 0 0 ones (Word value) (omega arith) h)
+    (λ d. pick-keeps EarKept _ _ _ (λ e. group-sound n value 17 ones Nothing (omega arith) h) (λ e. lost-sound ones (CheckError n) h)))
 
 pub hear-keeps : (e : Ear) (b : Bool) → earSound e ≡ true → earSound (hear e b .ear) ≡ true
 unfolding hear inGroup inLost earSound
-hear-keeps Quiet b s = pick-keeps EarKept _ _ _ (λ c. quiet-sound Nothing) (λ c. group-sound 0 0 0 Start (omega arith) (omega arith))
-hear-keeps (Group value bits ones) b s =
+hear-keeps Quiet b s = pick-keeps EarKept _ _ _ (λ c. quiet-sound Nothing) (λ c. group-sound 0 0 0 0 Start (omega arith) (omega arith))
+hear-keeps (Group n value bits ones) b s =
     let run : runOn ones b ≤ 18 = run-within ones b (ltb-true _ _ (and-r (leb bits 17) _ s)) in
     pick-keeps EarKept _ _ _ (λ c. quiet-sound End)
     (λ c. pick-keeps EarKept _ _ _
-    (λ d. let k : bits < 16 = ltb-true _ _ d in group-sound (shiftIn value b) (bits + 1) (runOn ones b) Nothing (omega arith) (not-end _ run c))
-    (λ d. check-sound value bits (runOn ones b) b (not-end _ run c)))
+    (λ d. let k : bits < 16 = ltb-true _ _ d in group-sound n (shiftIn value b) (bits + 1) (runOn ones b) Nothing (omega arith) (not-end _ run c))
+    (λ d. check-sound n value bits (runOn ones b) b (not-end _ run c)))
 hear-keeps (Lost ones) b s =
     let run : runOn ones b ≤ 18 = run-within ones b (ltb-true _ _ s) in
     pick-keeps EarKept _ _ _ (λ c. quiet-sound Over) (λ c. lost-sound (runOn ones b) Nothing (not-end _ run c))

@@ -13,8 +13,8 @@ use Rattle.line.specs.declared.Ear.{Ear}
 use Rattle.line.specs.declared.Heard.{Heard}
 use Rattle.line.specs.Format.{checkBit, pieceBit}
 use Rattle.line.specs.declared.Ear.the-variants.{Group}
-use Rattle.line.specs.declared.Found.the-variants.{Nothing}
-use Rattle.line.specs.Reader.{heard, runOn, shiftIn, hear, inGroup, inLost}
+use Rattle.line.specs.declared.Found.the-variants.{Nothing, Word}
+use Rattle.line.specs.Reader.{heard, runOn, shiftIn, nextNumber, hear, inGroup, inLost}
 
 -- a test by 0 is the other test by 1
 pub is-check : (w : ℕ) → eqb (w % 2) 0 ≡ checkBit w
@@ -41,10 +41,15 @@ told-sum n k b h e = rw h at e
 pub denied-sum : (n k : ℕ) (b : Bool) → n ≡ val b → (n + k ≡ 1 → ⊥) → val b + k ≡ 1 → ⊥
 denied-sum n k b h e = rw h at e
 
-pub to-shifted : (value bits ones n : ℕ) (b : Bool) → n ≡ val b
-    → heard (Group (value % 32768 * 2 + n) (bits + 1) ones) Nothing ≡ heard (Group (shiftIn value b) (bits + 1) ones) Nothing
+pub to-shifted : (i value bits ones n : ℕ) (b : Bool) → n ≡ val b
+    → heard (Group i (value % 32768 * 2 + n) (bits + 1) ones) Nothing ≡ heard (Group i (shiftIn value b) (bits + 1) ones) Nothing
 unfolding shiftIn
-to-shifted value bits ones n b h = rw h
+to-shifted i value bits ones n b h = rw h
+
+-- a word, by the number that its follower got
+pub to-numbered : (i n value ones : ℕ) → n ≡ nextNumber i
+    → heard (Group n 0 0 ones) (Word value) ≡ heard (Group (nextNumber i) 0 0 ones) (Word value)
+to-numbered i n value ones h = rw h
 
 -- an arm knows the constructor
 pub to-piece-bit : (p q : Piece) (i : ℕ) (x : Bool) → p ≡ q → x ≡ pieceBit q i → x ≡ pieceBit p i
@@ -54,8 +59,9 @@ pub to-hear : (e v : Ear) (b : Bool) (x : Heard) → v ≡ e → x ≡ hear e b 
 to-hear e v b x h f = rw h f
 
 -- the parts of a bit in a group or after a check error, by what the run has become
-pub to-group : (value bits ones run : ℕ) (b : Bool) (x : Heard) → run ≡ runOn ones b → x ≡ inGroup value bits run b → x ≡ inGroup value bits (runOn ones b) b
-to-group value bits ones run b x h f = rw (sym h) f
+pub to-group : (i value bits ones run : ℕ) (b : Bool) (x : Heard) → run ≡ runOn ones b → x ≡ inGroup i value bits run b
+    → x ≡ inGroup i value bits (runOn ones b) b
+to-group i value bits ones run b x h f = rw (sym h) f
 
 pub to-lost : (ones run : ℕ) (b : Bool) (x : Heard) → run ≡ runOn ones b → x ≡ inLost run → x ≡ inLost (runOn ones b)
 to-lost ones run b x h f = rw (sym h) f

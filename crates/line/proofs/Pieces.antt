@@ -3,9 +3,10 @@ use mathlib.Core.Path.{_≡_, refl}
 use mathlib.Core.Bool.{Bool, true, false, not}
 use mathlib.Core.List.{List, [], _∷_, _++_}
 use mathlib.Core.Logic.{_⊎_, inl, inr}
-use Prim.Native.Nat.{ℕ, zero, suc, _≤_, _<_}
+use Prim.Native.Nat.{ℕ, zero, suc, _≤_, _<_, min}
 use native.Mathlib.Omega.{arith}
 use native.Mathlib.Decide.{decLe, ℕ-discrete}
+use lib.ListN.{length, length-append}
 use Rattle.base.specs.Pick.{pick}
 use Rattle.base.specs.Bits.{val, bit, val-le}
 use Rattle.line.specs.declared.Piece.{Piece}
@@ -13,8 +14,17 @@ use Rattle.line.specs.declared.Piece.the-variants.{Pause, StartBit, Word
 use Rattle.line.specs.declared.Ear.{Ear}
 use Rattle.line.specs.declared.Ear.the-variants.{Quiet, Group}
 use Rattle.line.specs.Format.{checkBit, pieceLength, pieceBit}
-use Rattle.line.specs.Reader.{runOn, shiftIn, atCheck, inGroup, hear, Reading, collect, readBit}
+use Rattle.line.specs.Reader.{runOn, shiftIn, lastNumber, nextNumber, atCheck, inGroup, hear, Reading, collect, readBit}
 use Rattle.line.proofs.Hears.{run-le, hear-in, InWord, WordOn, word-none, word-on, word-end}
+
+-- The number of the word that follows these in their command.
+unfoldable pub numberOf : List ℕ → ℕ
+numberOf words = min (length words) lastNumber
+
+-- one word more
+pub number-on : (words : List ℕ) (w : ℕ) → nextNumber (numberOf words) ≡ numberOf (words ++ (w ∷ []))
+unfolding numberOf nextNumber
+number-on words w = rw length-append (omega arith)
 
 -- Where the reader stands between two pieces: outside a command, or in one after a 0 or a 1.
 pub data Pos : Type 0 where
@@ -23,7 +33,7 @@ pub data Pos : Type 0 where
 
 unfoldable pub at : Pos → Reading
 at (out finished) = record { finished = finished; words = []; ear = Quiet }
-at (within finished words b) = record { finished = finished; words = words; ear = Group 0 0 (val b) }
+at (within finished words b) = record { finished = finished; words = words; ear = Group (numberOf words) 0 0 (val b) }
 
 -- The reading of the first n bits of f.
 unfoldable pub upTo : Reading → (ℕ → Bool) → ℕ → Reading
@@ -51,11 +61,11 @@ Fits EndPiece p = Unit {0}
 
 module _ (finished : List (List ℕ)) (words : List ℕ) where
   -- A bit that does not complete its group.
-  in-group : (v c n : ℕ) (b : Bool) → c < 16 → n ≤ suc c
-      → readBit (record { finished = finished; words = words; ear = Group v c n }) b
-      ≡ record { finished = finished; words = words; ear = Group (shiftIn v b) (suc c) (runOn n b) }
+  in-group : (i v c n : ℕ) (b : Bool) → c < 16 → n ≤ suc c
+      → readBit (record { finished = finished; words = words; ear = Group i v c n }) b
+      ≡ record { finished = finished; words = words; ear = Group i (shiftIn v b) (suc c) (runOn n b) }
   unfolding readBit collect
-  in-group v c n b h k = rw (hear-in v c n b h k)
+  in-group i v c n b h k = rw (hear-in i v c n b h k)
 
   end-within : (b : Bool) → upTo (at (within finished words b)) (pieceBit EndPiece) 18 ≡ at (out (finished ++ (words ∷ [])))
   unfolding upTo at pieceBit readBit hear inGroup atCheck runOn shiftIn collect val pick
@@ -66,25 +76,25 @@ module _ (finished : List (List ℕ)) (words : List ℕ) where
 record Reads (r : Reading) (finished : List (List ℕ)) (words : List ℕ) (w j : ℕ) : Type 0 where
   ear : Ear
   is : r ≡ record { finished = finished; words = words; ear = ear }
-  in-word : InWord w j ear
+  in-word : InWord (numberOf words) w j ear
 
 module _ (finished : List (List ℕ)) (words : List ℕ) (w : ℕ) (fits : w < 65536) (b : Bool) where
   word-bits : (j : ℕ) → j ≤ 16 → Reads (upTo (at (within finished words b)) (pieceBit (WordPiece w)) j) finished words w j
   unfolding upTo at readBit collect
-  word-bits zero k = record { ear = Group 0 0 (val b); is = refl; in-word = word-none w b fits }
+  word-bits zero k = record { ear = Group (numberOf words) 0 0 (val b); is = refl; in-word = word-none (numberOf words) w b fits }
   word-bits (suc j) k = go (word-bits j (omega arith))
     where
       go : Reads (upTo (at (within finished words b)) (pieceBit (WordPiece w)) j) finished words w j
           → Reads (readBit (upTo (at (within finished words b)) (pieceBit (WordPiece w)) j) (pieceBit (WordPiece w) j)) finished words w (suc j)
       go i =
-          let o : WordOn w j (hear (i .ear) (pieceBit (WordPiece w) j)) = word-on w j (i .ear) fits k (i .in-word) in
+          let o : WordOn (numberOf words) w j (hear (i .ear) (pieceBit (WordPiece w) j)) = word-on (numberOf words) w j (i .ear) fits k (i .in-word) in
           record { ear = o .ear; is = rw (i .is, o .is) refl; in-word = o .in-word }
 
   word-within : upTo (at (within finished words b)) (pieceBit (WordPiece w)) 17 ≡ at (within finished (words ++ (w ∷ [])) (checkBit w))
   unfolding upTo at readBit collect
   word-within =
       let i : Reads (upTo (at (within finished words b)) (pieceBit (WordPiece w)) 16) finished words w 16 = word-bits 16 (omega arith) in
-      rw (i .is, word-end w (i .ear) (i .in-word)) refl
+      rw (i .is, word-end (numberOf words) w (i .ear) (i .in-word), number-on words w) refl
 
 end-out : (finished : List (List ℕ)) (n : ℕ) → upTo (at (out finished)) (pieceBit EndPiece) n ≡ at (out finished)
 unfolding upTo at pieceBit readBit hear collect pick
@@ -95,7 +105,7 @@ end-out finished (suc n) = rw (end-out finished n)
 pub whole : (u : Piece) (p : Pos) → Fits u p → upTo (at p) (pieceBit u) (pieceLength u) ≡ at (after u p)
 unfolding after val
 whole Pause p f = unfold upTo in refl
-whole StartBit (out finished) f = unfold upTo pieceBit readBit hear collect at pick in refl
+whole StartBit (out finished) f = unfold upTo pieceBit readBit hear collect at numberOf pick in refl
 whole StartBit (within finished words b) f = absurd f
 whole EndPiece (out finished) f = end-out finished 18
 whole EndPiece (within finished words b) f = end-within finished words b
@@ -127,7 +137,7 @@ shows-equal r p e = rw e (shows-at p)
 record Early (r : Reading) (finished : List (List ℕ)) (words : List ℕ) (c : ℕ) : Type 0 where
   value : ℕ
   run : ℕ
-  is : r ≡ record { finished = finished; words = words; ear = Group value c run }
+  is : r ≡ record { finished = finished; words = words; ear = Group (numberOf words) value c run }
   few : run ≤ suc c
 
 module _ (finished : List (List ℕ)) (words : List ℕ) (b : Bool) where
@@ -141,7 +151,7 @@ module _ (finished : List (List ℕ)) (words : List ℕ) (b : Bool) where
           record {
             value = shiftIn (i .value) (f n);
             run = runOn (i .run) (f n);
-            is = rw (i .is, in-group finished words (i .value) n (i .run) (f n) h (i .few));
+            is = rw (i .is, in-group finished words (numberOf words) (i .value) n (i .run) (f n) h (i .few));
             few = omega (arith, run-le (i .run) (f n), i .few);
           }
 

@@ -16,7 +16,8 @@ use Rattle.line.specs.declared.Piece.the-variants.{Pause, StartBit, Word
 use Rattle.line.specs.declared.Ear.the-variants.{Quiet}
 use Rattle.line.specs.Format.{checkBit, wordBits, endBits, wordsBits, Segment, idle, command, encode, commandsOf, Words, Sixteen, pieceLength, wordBit, pieceBit}
 use Rattle.line.specs.Reader.{hear, Reading, collect, readBit, readBits, readLine, Sent}
-use Rattle.line.proofs.Pieces.{Pos, out, within, at, upTo, after, Fits, whole, part, Shows, finishedAt, wordsAt, shows-at}
+use Rattle.line.specs.Damage.{bitBefore}
+use Rattle.line.proofs.Pieces.{numberOf, Pos, out, within, at, upTo, after, Fits, whole, part, Shows, finishedAt, wordsAt, shows-at}
 
 -- The first n values of f.
 unfoldable pub tabulate : (ℕ → Bool) → ℕ → List Bool
@@ -101,17 +102,12 @@ unfolding at readBit collect hear pick
 read-idle finished = refl
 
 pub read-start : (finished : List (List ℕ)) → readBit (at (out finished)) false ≡ at (within finished [] false)
-unfolding at readBit collect hear val pick
+unfolding at readBit collect hear numberOf val pick
 read-start finished = refl
 
--- The last check bit before an END; with no words, the start bit.
-unfoldable lastCheck : Bool → List ℕ → Bool
-lastCheck b [] = b
-lastCheck b (w ∷ ws) = lastCheck (checkBit w) ws
-
-read-words : (finished : List (List ℕ)) (words : List ℕ) (b : Bool) (ws : List ℕ) → Words ws
-    → readBits (at (within finished words b)) (wordsBits ws) ≡ at (within finished (words ++ ws) (lastCheck b ws))
-unfolding wordsBits lastCheck after
+pub read-words : (finished : List (List ℕ)) (words : List ℕ) (b : Bool) (ws : List ℕ) → Words ws
+    → readBits (at (within finished words b)) (wordsBits ws) ≡ at (within finished (words ++ ws) (bitBefore b ws))
+unfolding wordsBits bitBefore after
 read-words finished words b [] k = rw append-nil (unfold readBits in refl)
 read-words finished words b (w ∷ ws) k =
     rw (read-append, read-piece (WordPiece w) (within finished words b) (k .0), ← (append-assoc words (w ∷ []) ws))
@@ -121,9 +117,9 @@ read-command : (finished : List (List ℕ)) (ws : List ℕ) (t : List Bool) → 
     → readBits (at (out finished)) (false ∷ (wordsBits ws ++ (endBits ++ t))) ≡ readBits (at (out (finished ++ (ws ∷ [])))) t
 unfolding after
 read-command finished ws t k =
-    rw (read-cons, read-start, read-append, read-words finished [] false ws k, read-append, read-piece EndPiece (within finished ws (lastCheck false ws)) tt)
+    rw (read-cons, read-start, read-append, read-words finished [] false ws k, read-append, read-piece EndPiece (within finished ws (bitBefore false ws)) tt)
 
-read-segments : (finished : List (List ℕ)) (s : List Segment) → Sixteen s → readBits (at (out finished)) (encode s) ≡ at (out (finished ++ commandsOf s))
+pub read-segments : (finished : List (List ℕ)) (s : List Segment) → Sixteen s → readBits (at (out finished)) (encode s) ≡ at (out (finished ++ commandsOf s))
 unfolding encode commandsOf
 read-segments finished [] k = rw (append-nil, read-nil)
 read-segments finished (idle ∷ s) k = rw (read-cons, read-idle) (read-segments finished s k)

@@ -3,7 +3,7 @@
 use mathlib.Core.Path.{_≡_}
 use mathlib.Core.Bool.{Bool, true, false}
 use mathlib.Core.List.{List, [], _∷_, _++_}
-use Prim.Native.Nat.{ℕ, _+_, _*_, _%_}
+use Prim.Native.Nat.{ℕ, _+_, _*_, _%_, min}
 use lib.Dec.{ltb, eqb}
 use lib.ListN.{length, take, getD}
 use Rattle.base.specs.Pick.{pick}
@@ -28,28 +28,36 @@ runOn ones false = 0
 unfoldable pub shiftIn : ℕ → Bool → ℕ
 shiftIn value b = value % topBit * 2 + val b
 
--- The bit after a group's sixteen: with one that is NOT their last they are a word; "a group of seventeen 1s is END if it makes or the next
--- bit makes 18, else a check error", so those seventeen are kept for one bit more.
-unfoldable pub atCheck : ℕ → ℕ → ℕ → Bool → Heard
-atCheck value bits ones b =
-    pick (ltb wordLength bits) (heard (Lost ones) CheckError)
-    (pick (eqb (val b + value % 2) 1) (heard (Group 0 0 ones) (Word value))
-    (pick (eqb value allOnes) (heard (Group value (wordLength + 1) ones) Nothing) (heard (Lost ones) CheckError)))
+-- "the number of the word in its command, counting from 0 and stopping at 65,535". 02 item 4
+abbrev pub lastNumber : ℕ
+lastNumber = 65535
 
--- A bit in a group of `bits` bits; `ones` counts the 1s in a row with this bit. "END is 18 consecutive 1s."
-unfoldable pub inGroup : ℕ → ℕ → ℕ → Bool → Heard
-inGroup value bits ones b =
+-- the number of the word behind word n
+unfoldable pub nextNumber : ℕ → ℕ
+nextNumber n = min (n + 1) lastNumber
+
+-- The bit after a group's sixteen: with one that is NOT their last they are a word; "a group of seventeen 1s is END if it makes or the next
+-- bit makes 18, else a check error", so those seventeen are kept for one bit more. Group or seventeen 1s, the bad word is word n (02 item 4).
+unfoldable pub atCheck : ℕ → ℕ → ℕ → ℕ → Bool → Heard
+atCheck n value bits ones b =
+    pick (ltb wordLength bits) (heard (Lost ones) (CheckError n))
+    (pick (eqb (val b + value % 2) 1) (heard (Group (nextNumber n) 0 0 ones) (Word value))
+    (pick (eqb value allOnes) (heard (Group n value (wordLength + 1) ones) Nothing) (heard (Lost ones) (CheckError n))))
+
+-- A bit in a group of `bits` bits, word n of its command; `ones` counts the 1s in a row with this bit. "END is 18 consecutive 1s."
+unfoldable pub inGroup : ℕ → ℕ → ℕ → ℕ → Bool → Heard
+inGroup n value bits ones b =
     pick (eqb ones endLength) (heard Quiet End)
-    (pick (ltb bits wordLength) (heard (Group (shiftIn value b) (bits + 1) ones) Nothing) (atCheck value bits ones b))
+    (pick (ltb bits wordLength) (heard (Group n (shiftIn value b) (bits + 1) ones) Nothing) (atCheck n value bits ones b))
 
 -- "After a check error: .. discard until END"
 unfoldable pub inLost : ℕ → Heard
 inLost ones = pick (eqb ones endLength) (heard Quiet Over) (heard (Lost ones) Nothing)
 
--- "The reader (SIN) starts at a 0."
+-- "The reader (SIN) starts at a 0." The word that follows is word 0.
 unfoldable pub hear : Ear → Bool → Heard
-hear Quiet b = pick b (heard Quiet Nothing) (heard (Group 0 0 0) Start)
-hear (Group value bits ones) b = inGroup value bits (runOn ones b) b
+hear Quiet b = pick b (heard Quiet Nothing) (heard (Group 0 0 0 0) Start)
+hear (Group n value bits ones) b = inGroup n value bits (runOn ones b) b
 hear (Lost ones) b = inLost (runOn ones b)
 
 -- What a line has shown so far: the commands finished, the words of the one under way, and what the reader is in.
@@ -63,7 +71,7 @@ collect finished words ear Nothing = record { finished = finished; words = words
 collect finished words ear Start = record { finished = finished; words = []; ear = ear }
 collect finished words ear (Word w) = record { finished = finished; words = words ++ (w ∷ []); ear = ear }
 collect finished words ear End = record { finished = finished ++ (words ∷ []); words = []; ear = ear }
-collect finished words ear CheckError = record { finished = finished; words = []; ear = ear }
+collect finished words ear (CheckError n) = record { finished = finished; words = []; ear = ear }
 collect finished words ear Over = record { finished = finished; words = []; ear = ear }
 
 unfoldable pub readBit : Reading → Bool → Reading

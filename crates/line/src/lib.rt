@@ -3,7 +3,7 @@ ghost use mathlib.Core.Path.{_≡_};
 ghost use Prim.Native.Nat.{_≤_};
 ghost use Rattle.base.specs.Bits.{val};
 ghost use Rattle.line.specs.Format.{pieceLength, pieceBit, wordBit};
-ghost use Rattle.line.specs.Reader.{runOn, atCheck, inGroup, inLost, hear as hearOf};
+ghost use Rattle.line.specs.Reader.{runOn, nextNumber, atCheck, inGroup, inLost, hear as hearOf};
 
 // What a line is made of. A pause has no bits.
 pub enum Piece {
@@ -13,20 +13,28 @@ pub enum Piece {
     EndPiece,
 }
 
-// What the reader is in: outside a command; in a group of so many bits; discarding after a check error. `ones` counts the 1s in a row.
+// What the reader is in: outside a command; in a group of so many bits, which is this command's word `number` (02 item 4); discarding after a
+// check error. `ones` counts the 1s in a row.
 pub enum Ear {
     Quiet,
-    Group { value: u16, bits: u16, ones: u16 },
-    Lost { ones: u16 },
+    Group {
+        number: u16,
+        value: u16,
+        bits: u16,
+        ones: u16,
+    },
+    Lost {
+        ones: u16,
+    },
 }
 
-// What a bit completes. `Over` is the END of a command that had a check error.
+// What a bit completes. `CheckError` says which word of its command went bad. `Over` is the END of a command that had a check error.
 pub enum Found {
     Nothing,
     Start,
     Word(u16),
     End,
-    CheckError,
+    CheckError(u16),
     Over,
 }
 
@@ -87,20 +95,32 @@ fn bit_value(bit: bool) -> u16
     if bit { 1 } else { 0 }
 }
 
+// The number of the next word: it stops where 16 bits do.
+fn next_number(number: u16) -> u16
+    ensures { λ r. ⌜ r ≡ nextNumber number ⌝ }
+{
+    if number < 65535 {
+        return number + 1;
+    }
+    65535
+}
+
 // The bit after a group's sixteen.
-fn at_check(value: u16, bits: u16, ones: u16, bit: bool) -> Heard
-    ensures { λ r. ⌜ r ≡ atCheck value bits ones bit ⌝ }
+fn at_check(number: u16, value: u16, bits: u16, ones: u16, bit: bool) -> Heard
+    ensures { λ r. ⌜ r ≡ atCheck number value bits ones bit ⌝ }
 {
     let lost = Heard {
         ear: Ear::Lost { ones: ones },
-        found: Found::CheckError,
+        found: Found::CheckError(number),
     };
     if 16 < bits {
         return lost;
     }
     if bit_value(bit) + value % 2 == 1 {
+        let next = next_number(number);
         return Heard {
             ear: Ear::Group {
+                number: next,
                 value: 0,
                 bits: 0,
                 ones: ones,
@@ -111,6 +131,7 @@ fn at_check(value: u16, bits: u16, ones: u16, bit: bool) -> Heard
     if value == 65535 {
         return Heard {
             ear: Ear::Group {
+                number: number,
                 value: value,
                 bits: 17,
                 ones: ones,
@@ -121,8 +142,8 @@ fn at_check(value: u16, bits: u16, ones: u16, bit: bool) -> Heard
     lost
 }
 
-fn in_group(value: u16, bits: u16, ones: u16, bit: bool) -> Heard
-    ensures { λ r. ⌜ r ≡ inGroup value bits ones bit ⌝ }
+fn in_group(number: u16, value: u16, bits: u16, ones: u16, bit: bool) -> Heard
+    ensures { λ r. ⌜ r ≡ inGroup number value bits ones bit ⌝ }
 {
     if ones == 18 {
         return Heard {
@@ -134,6 +155,7 @@ fn in_group(value: u16, bits: u16, ones: u16, bit: bool) -> Heard
         let b = bit_value(bit);
         return Heard {
             ear: Ear::Group {
+                number: number,
                 value: value % 32768 * 2 + b,
                 bits: bits + 1,
                 ones: ones,
@@ -141,7 +163,7 @@ fn in_group(value: u16, bits: u16, ones: u16, bit: bool) -> Heard
             found: Found::Nothing,
         };
     }
-    at_check(value, bits, ones, bit)
+    at_check(number, value, bits, ones, bit)
 }
 
 fn in_lost(ones: u16) -> Heard
@@ -173,6 +195,7 @@ pub fn hear(ear: Ear, bit: bool) -> Heard
             }
             Heard {
                 ear: Ear::Group {
+                    number: 0,
                     value: 0,
                     bits: 0,
                     ones: 0,
@@ -180,7 +203,12 @@ pub fn hear(ear: Ear, bit: bool) -> Heard
                 found: Found::Start,
             }
         }
-        Ear::Group { value, bits, ones } => in_group(value, bits, run_on(ones, bit), bit),
+        Ear::Group {
+            number,
+            value,
+            bits,
+            ones,
+        } => in_group(number, value, bits, run_on(ones, bit), bit),
         Ear::Lost { ones } => in_lost(run_on(ones, bit)),
     }
 }

@@ -41,7 +41,7 @@ senderSound s q =
 
 unfoldable pub earSound : Ear → Bool
 earSound Quiet = true
-earSound (Group value bits ones) = leb bits groupLength && ltb ones endLength
+earSound (Group number value bits ones) = leb bits groupLength && ltb ones endLength
 earSound (Lost ones) = ltb ones endLength
 
 -- the oldest place has begun, has words and is not yet read: the command being read can belong to it
@@ -56,7 +56,7 @@ heardMarks r q f =
 -- up at the command's start or rises in it".
 unfoldable pub marksSound : Ear → Reader → Queue → Flags → Bool
 marksSound Quiet r q f = not (r .belongs) && not (r .storing) && not (r .stored)
-marksSound (Group value bits ones) r q f = heardMarks r q f
+marksSound (Group number value bits ones) r q f = heardMarks r q f
 marksSound (Lost ones) r q f = heardMarks r q f
 
 abbrev pub readerSound : Reader → Queue → Flags → Bool

@@ -77,6 +77,7 @@ fn ear_sound(ear: Ear) -> bool
     match ear {
         Ear::Quiet => true,
         Ear::Group {
+            number: _,
             value: _,
             bits,
             ones,
@@ -116,6 +117,7 @@ fn marks_sound(ear: Ear, reader: Reader, queue: Queue, flags: Flags) -> bool
     match ear {
         Ear::Quiet => !reader.belongs & !reader.storing & !reader.stored,
         Ear::Group {
+            number: _,
             value: _,
             bits: _,
             ones: _,

@@ -75,7 +75,7 @@ isEnd Nothing = false
 isEnd Start = false
 isEnd (WordFound word) = false
 isEnd End = true
-isEnd CheckError = false
+isEnd (CheckError n) = false
 isEnd Over = false
 
 -- whether the bridge's reader finds END at the next looped tick
@@ -98,8 +98,8 @@ table =
     ∷ row (crcOf (0xFFFD ∷ [])) 0x2042  -- "of 0xFFFD 0x2042"
     ∷ row (noteOf 0x21FF) 0  -- "Word 0x21FF accepted"
     ∷ row (noteOf 0x2200) 3  -- "0x2200 note 3"
-    ∷ row (noteOf 0xA00A) 0  -- "0xA00A accepted"
-    ∷ row (noteOf 0xA10A) 3  -- "0xA10A note 3"
+    ∷ row (noteOf 0xA10A) 0  -- "0xA10A is accepted". 02 item 4
+    ∷ row (noteOf 0xA10B) 3  -- "and 0xA10B takes its row". 02 item 4
     ∷ row (noteOf 0xF000) 3  -- "0xF000 note 3"
     ∷ row (statusAfter (powerOn true)) 0x0403  -- "STATUS 0x0403 at power-up"
     ∷ row (statusAfter (powerOn false)) 0x041B  -- "0x041B with bad OTP"

@@ -8,11 +8,11 @@ use Rattle.base.specs.Bits.{val, odd, bit, highFirst}
 use Rattle.base.specs.Pick.{pick}
 use Rattle.crc16.specs.Crc.{shift, crcBit, crcBits, crcWord, crcFrom, crcOf}
 use Rattle.command.specs.Layout.{write, registerWrite, softReset, rows, byNumber, decodeOurs, writeEnds}
-use Rattle.registers.specs.Raising.{raised}
+use Rattle.registers.specs.Raising.{raised, wentBad}
 use Rattle.registers.specs.Registers.{blocking, powerUpControl, table, resetRegs, cleared, powerUpFlags}
 use Rattle.registers.specs.Writing.{writeStatus, writeMasked, writeOf, writeTxfflvl}
 use Rattle.line.specs.Format.{checkBit, wordBit, pieceBit}
-use Rattle.line.specs.Reader.{Sent, runOn, shiftIn, atCheck, inGroup, inLost, hear, readLine}
+use Rattle.line.specs.Reader.{Sent, runOn, shiftIn, nextNumber, atCheck, inGroup, inLost, hear, readLine}
 use Rattle.state.specs.Frame.{mineOf, owedBy, toCome, collectSound, replySound, phaseSound}
 use Rattle.state.specs.Power.{powerUp, badControl, powerUpBad}
 use Rattle.state.specs.Queue.{noPlace, newPlace, waiting, wordsOf, moved, freed, firstUnread, claimed, returned, placesOf, placesIn, lacks}
@@ -68,7 +68,7 @@ opening = frame (0xB007 ∷ 0x8000 ∷ [])
 
 -- The run meets the premises; at its end all is sent.
 unfoldable pub meets : List Event → Bool
-unfolding ticks frame opening val odd bit highFirst pick shift crcBit crcBits crcWord crcFrom crcOf write registerWrite rows byNumber decodeOurs raised blocking powerUpControl writeStatus writeMasked writeOf checkBit wordBit pieceBit runOn shiftIn atCheck inGroup inLost hear mineOf owedBy toCome collectSound replySound phaseSound powerUp noPlace newPlace waiting wordsOf moved freed firstUnread claimed returned written ringAfter stored done roleSound slotSound slotsBelow endSound pieceSound earSound marksSound isUnmarked choose bitSent wordSent queueSent senderAfter advanced finished sentBy tickSender wordRead errorRead endRead wordTaken atEnd ended takenBy tickReader asksStore guard mineAfter enqueues clears forwarded forwardWord forwardBegun opened isQuiet isTransmitClear isReceiveClear isRefused withWrite registerWord dataWord wrongCrc forwardClosed crcDue plannedIn planned releasedIn clearedAway received settled concluded performed powered blockedIn same markAfter watched starvedFlags flagsSent phaseAfter controlTicked tickEnds tickHears ticked clocked reacted turned turn step planOf came accepts collects joined settle logged logBy listed acceptedIn isPower typed fair premises faults outOf next endOf lineBit soutOf powerOn allSent table resetRegs cleared powerUpFlags writeTxfflvl registersClosed faulted tickNote elapsed modeAt flagsAt controlAt placeSent commandSent writeEnds began placesOf placesIn lacks
+unfolding ticks frame opening val odd bit highFirst pick shift crcBit crcBits crcWord crcFrom crcOf write registerWrite rows byNumber decodeOurs raised wentBad blocking powerUpControl writeStatus writeMasked writeOf checkBit wordBit pieceBit runOn shiftIn atCheck inGroup inLost nextNumber hear mineOf owedBy toCome collectSound replySound phaseSound powerUp noPlace newPlace waiting wordsOf moved freed firstUnread claimed returned written ringAfter stored done roleSound slotSound slotsBelow endSound pieceSound earSound marksSound isUnmarked choose bitSent wordSent queueSent senderAfter advanced finished sentBy tickSender wordRead errorRead endRead wordTaken atEnd ended takenBy tickReader asksStore guard mineAfter enqueues clears forwarded forwardWord forwardBegun opened isQuiet isTransmitClear isReceiveClear isRefused withWrite registerWord dataWord wrongCrc forwardClosed crcDue plannedIn planned releasedIn clearedAway received settled concluded performed powered blockedIn same markAfter watched starvedFlags flagsSent phaseAfter controlTicked tickEnds tickHears ticked clocked reacted turned turn step planOf came accepts collects joined settle logged logBy listed acceptedIn isPower typed fair premises faults outOf next endOf lineBit soutOf powerOn allSent table resetRegs cleared powerUpFlags writeTxfflvl registersClosed faulted tickNote elapsed modeAt flagsAt controlAt placeSent commandSent writeEnds began placesOf placesIn lacks
 meets es = premises ours from es
 
 unfoldable sends-all : List Event → Bool

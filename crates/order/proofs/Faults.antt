@@ -8,7 +8,7 @@ use Rattle.line.specs.declared.Ear.{Ear}
 use Rattle.line.specs.declared.Found.{Found}
 use Rattle.line.specs.declared.Found.the-variants.{Nothing, Start, Word, End, CheckError, Over}
 use Rattle.registers.specs.Registers.{blocking}
-use Rattle.registers.specs.Raising.{raised}
+use Rattle.registers.specs.Raising.{raised, wentBad}
 use Rattle.registers.specs.declared.Flag.the-variants.{LineCrc, TxUvf}
 use Rattle.registers.specs.declared.Flags.{Flags}
 use Rattle.state.specs.declared.Bridge.{Bridge}
@@ -41,11 +41,11 @@ module _ (f : Flags) where
         (λ p. pick-keeps (λ (t : Taken). Same f (t .flags)) _ _ _ (λ c. refl) (λ c. refl)) (λ p. refl)
 
     same-taken : (found : Found) → Same f (takenBy found r q f e .flags)
-    unfolding takenBy ended blocking raised
+    unfolding takenBy ended blocking raised wentBad
     same-taken Nothing = refl
     same-taken Start = refl
     same-taken (Word w) = same-word w
-    same-taken CheckError = refl
+    same-taken (CheckError n) = refl
     same-taken End = compared _
     same-taken Over = compared _
 

@@ -49,7 +49,7 @@ module _ (q : Queue) (k : QueueOk q) where
     leaves-taken Nothing = leaves-all q k
     leaves-taken Start = leaves-all q k
     leaves-taken (Word w) = leaves-taken-word w
-    leaves-taken CheckError = leaves-error (r .reader .belongs)
+    leaves-taken (CheckError n) = leaves-error (r .reader .belongs)
     leaves-taken End = leaves-end (r .reader .belongs)
     leaves-taken Over = leaves-end (r .reader .belongs)
 

@@ -38,7 +38,7 @@ pub enum Receive {
 // What a word or a release of chip select does. `status`: STATUS is answered, taken after all effects.
 pub struct Plan {
     pub phase: Phase,
-    pub held: [u16; 11],
+    pub held: [u16; 12],
     pub control: Control,
     pub store: Store,
     pub deed: Deed,

@@ -139,7 +139,7 @@ heard-none Nothing h = refl
 heard-none Start h = cc
 heard-none (WordFound w) h = cc
 heard-none End h = cc
-heard-none CheckError h = cc
+heard-none (CheckError n) h = cc
 heard-none Over h = cc
 
 abbrev goes : Sender → Next

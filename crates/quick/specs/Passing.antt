@@ -22,7 +22,7 @@ isNothing Nothing = true
 isNothing Start = false
 isNothing (WordFound w) = false
 isNothing End = false
-isNothing CheckError = false
+isNothing (CheckError n) = false
 isNothing Over = false
 
 -- more than one bit of the piece is left: with its last bit a place may be sent

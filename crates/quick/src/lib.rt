@@ -30,7 +30,7 @@ fn is_nothing(found: Found) -> bool
         Found::Start => false,
         Found::Word(_) => false,
         Found::End => false,
-        Found::CheckError => false,
+        Found::CheckError(_) => false,
         Found::Over => false,
     }
 }

@@ -12,9 +12,9 @@ use Rattle.line.specs.declared.Found.the-variants.{Nothing, Start, CheckError}
 use Rattle.line.specs.declared.Heard.{Heard}
 use Rattle.line.specs.Reader.{hear}
 use Rattle.registers.specs.Registers.{rxff}
-use Rattle.registers.specs.Raising.{raised}
+use Rattle.registers.specs.Raising.{raised, wentBad}
 use Rattle.registers.specs.declared.Flags.{Flags}
-use Rattle.registers.specs.declared.Flag.the-variants.{CheckBit, LineCrc, RxOvf}
+use Rattle.registers.specs.declared.Flag.the-variants.{LineCrc, RxOvf}
 use Rattle.state.specs.Queue.{placeAt, withPlace, claimed, returned}
 use Rattle.state.specs.declared.Place.{Place}
 use Rattle.state.specs.declared.Queue.{Queue}
@@ -149,10 +149,10 @@ module _ (v : Found) (r : Receiving) (q : Queue) (f : Flags) (e : Ear) (x : Take
     unfolding takenBy
     to-start h u k = rw h (k ∙ rw u)
 
-    pub to-error : v ≡ CheckError → s ≡ withEar r e → (m : Queue) → m ≡ errorRead (r .reader .belongs) q → (up : Flags) → up ≡ raised f CheckBit
+    pub to-error : (n : ℕ) → v ≡ CheckError n → s ≡ withEar r e → (m : Queue) → m ≡ errorRead (r .reader .belongs) q → (up : Flags) → up ≡ wentBad f n
         → x ≡ taken s m up false → x ≡ takenBy v r q f e
     unfolding takenBy
-    to-error h u m l up g k = rw h (k ∙ rw (u, l, g))
+    to-error n h u m l up g k = rw h (k ∙ rw (u, l, g))
 
 pub to-tick : (r : Receiving) (q : Queue) (f : Flags) (sin : Bool) (o : Heard) (x : Taken) → o ≡ hear (r .reader .ear) sin
     → x ≡ takenBy (o .found) r q f (o .ear) → x ≡ tickReader r q f sin

@@ -1,4 +1,4 @@
--- What a tick hears (01 The line, "The reader (SIN)"; the bits are read by `hear` of `line`). Assumes nothing.
+-- What a tick hears (01 The line, "The reader (SIN)"; 02 item 4; the bits are read by `hear` of `line`). Assumes nothing.
 use mathlib.Core.Bool.{Bool, true, false, not, _&&_}
 use Prim.Native.Nat.{ℕ}
 use lib.Dec.{ltb}
@@ -9,9 +9,9 @@ use Rattle.line.specs.declared.Ear.{Ear}
 use Rattle.line.specs.declared.Found.{Found}
 use Rattle.line.specs.declared.Found.the-variants.{Nothing, Start, Word, End, CheckError, Over}
 use Rattle.registers.specs.Registers.{rxff}
-use Rattle.registers.specs.Raising.{raised}
+use Rattle.registers.specs.Raising.{raised, wentBad}
 use Rattle.registers.specs.declared.Flags.{Flags}
-use Rattle.registers.specs.declared.Flag.the-variants.{CheckBit, LineCrc, RxOvf}
+use Rattle.registers.specs.declared.Flag.the-variants.{LineCrc, RxOvf}
 use Rattle.state.specs.Rings.{rxSize, pushed}
 use Rattle.state.specs.Queue.{placeAt, withPlace, claimed, returned}
 use Rattle.state.specs.declared.Place.{Place}
@@ -148,7 +148,7 @@ unfoldable pub takenBy : Found → Receiving → Queue → Flags → Ear → Tak
 takenBy Nothing r q f e = taken (withEar r e) q f false
 takenBy Start r q f e = taken (began r q f e) q f false
 takenBy (Word w) r q f e = wordTaken r q f e w
-takenBy CheckError r q f e = taken (withEar r e) (errorRead (r .reader .belongs) q) (raised f CheckBit) false
+takenBy (CheckError n) r q f e = taken (withEar r e) (errorRead (r .reader .belongs) q) (wentBad f n) false
 takenBy End r q f e = ended r q f e
 takenBy Over r q f e = ended r q f e
 

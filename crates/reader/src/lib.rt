@@ -227,9 +227,9 @@ fn taken_by(found: Found, receiving: Receiving, queue: Queue, flags: Flags, ear:
         Found::Start => nothing_stored(began(receiving, queue, flags, ear), queue, flags, false),
         Found::Word(word) => word_taken(receiving, queue, flags, ear, word),
         Found::End => ended(receiving, queue, flags, ear),
-        Found::CheckError => {
+        Found::CheckError(number) => {
             let marked = error_read(receiving.reader.belongs, queue);
-            let up = registers::raise(flags, Flag::CheckBit);
+            let up = registers::went_bad(flags, number);
             nothing_stored(with_ear(receiving, ear), marked, up, false)
         }
         Found::Over => ended(receiving, queue, flags, ear),

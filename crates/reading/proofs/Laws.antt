@@ -36,14 +36,14 @@ module _ (c : Control) (t r a : ℕ) where
   pub to-read : (k x : ℕ) → a ≡ k → x ≡ readOf c t r k → x ≡ readOf c t r a
   to-read k x e f = f ∙ ap (λ (n : ℕ). readOf c t r n) (sym e)
 
-  beyond : 11 ≤ a → 0 ≡ readOf c t r a
+  beyond : 12 ≤ a → 0 ≡ readOf c t r a
   unfolding readOf
-  beyond h = let e : a ≡ suc (suc (suc (suc (suc (suc (suc (suc (suc (suc (suc (a - 11))))))))))) = omega arith in to-read _ 0 e refl
+  beyond h = let e : a ≡ suc (suc (suc (suc (suc (suc (suc (suc (suc (suc (suc (suc (a - 12)))))))))))) = omega arith in to-read _ 0 e refl
 
   -- the last arm knows the numbers that it is not
   pub to-none : (a ≡ 0 → ⊥) → (a ≡ 1 → ⊥) → (a ≡ 2 → ⊥) → (a ≡ 3 → ⊥) → (a ≡ 4 → ⊥) → (a ≡ 5 → ⊥) → (a ≡ 6 → ⊥) → (a ≡ 7 → ⊥)
-      → (a ≡ 8 → ⊥) → (a ≡ 9 → ⊥) → (a ≡ 10 → ⊥) → 0 ≡ readOf c t r a
-  to-none h0 h1 h2 h3 h4 h5 h6 h7 h8 h9 h10 =
+      → (a ≡ 8 → ⊥) → (a ≡ 9 → ⊥) → (a ≡ 10 → ⊥) → (a ≡ 11 → ⊥) → 0 ≡ readOf c t r a
+  to-none h0 h1 h2 h3 h4 h5 h6 h7 h8 h9 h10 h11 =
       beyond
-      (past 10 h10 (past 9 h9 (past 8 h8 (past 7 h7 (past 6 h6 (past 5 h5 (past 4 h4 (past 3 h3 (past 2 h2 (past 1 h1 (past 0 h0
-      zero-le)))))))))))
+      (past 11 h11 (past 10 h10 (past 9 h9 (past 8 h8 (past 7 h7 (past 6 h6 (past 5 h5 (past 4 h4 (past 3 h3 (past 2 h2 (past 1 h1 (past 0 h0
+      zero-le))))))))))))

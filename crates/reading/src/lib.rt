@@ -121,7 +121,7 @@ fn fifo(ovf: bool, uvf: bool, most: u16, count: u16) -> u16
     over + under + words
 }
 
-// There is no register above 10.
+// There is no register above 11.
 pub fn read(control: Control, tx_count: u16, rx_count: u16, address: u16) -> u16
     ensures { λ r. ⌜ r ≡ readOf control «tx_count» «rx_count» address ⌝ }
 {
@@ -138,6 +138,7 @@ pub fn read(control: Control, tx_count: u16, rx_count: u16, address: u16) -> u16
         8 => ifst(flags),
         9 => fifo(flags.txffovf, flags.txffuvf, 511, tx_count),
         10 => fifo(flags.rxffovf, flags.rxffuvf, 255, rx_count),
+        11 => flags.bad_word,
         _ => 0,
     }
 }

@@ -21,10 +21,10 @@ use state::Sender;
 use state::Sending;
 ghost use Prim.Native.Nat.{_≤_};
 
-pub const COLUMNS: usize = 141;
+pub const COLUMNS: usize = 142;
 
 // Those of the state; behind them are the cells of the lent stores.
-const STATE: usize = 139;
+const STATE: usize = 140;
 
 pub type Fields = [u16; COLUMNS];
 
@@ -103,6 +103,7 @@ fn flags(f: &Fields) -> Flags {
         txffuvf: on(f, 18),
         rxffovf: on(f, 19),
         rxffuvf: on(f, 20),
+        bad_word: at(f, 139),
     }
 }
 
@@ -121,6 +122,7 @@ fn ear(p: Parts) -> Ear {
     match kind {
         0 => Ear::Quiet,
         1 => Ear::Group {
+            number: p.d,
             value: p.a,
             bits: p.b,
             ones: p.c,
@@ -262,7 +264,7 @@ pub fn built(f: &Fields) -> Bridge {
         receiving: receiving(f),
         frame: Frame {
             phase: phase(held_at(f, 53), held_at(f, 60)),
-            held: [at(f, 38); 11],
+            held: [at(f, 38); 12],
         },
         clock: Clock {
             reading: at(f, 30),
@@ -310,7 +312,12 @@ fn of_piece(piece: Piece) -> Parts {
 fn of_ear(ear: Ear) -> Parts {
     match ear {
         Ear::Quiet => bare(0),
-        Ear::Group { value, bits, ones } => held(1, value, bits, ones, 0, false, false),
+        Ear::Group {
+            number,
+            value,
+            bits,
+            ones,
+        } => held(1, value, bits, ones, number, false, false),
         Ear::Lost { ones } => held(2, 0, 0, ones, 0, false, false),
     }
 }
@@ -461,6 +468,7 @@ fn put_control(f: &mut Fields, c: Control) {
     ];
     put(f, 0, &numbers);
     put_bits(f, 6, &bits);
+    set(f, 139, g.bad_word);
 }
 
 fn put_counts(f: &mut Fields, s: Sending, r: Receiving, c: Clock) {
@@ -491,7 +499,7 @@ fn put_frame(f: &mut Fields, frame: Frame) {
     put_parts(f, 60, of_open(phase));
 }
 
-// A record's numbers. Of the eleven held words there is the first; the lent stores' cells are no part of it, and 0.
+// A record's numbers. Of the twelve held words there is the first; the lent stores' cells are no part of it, and 0.
 pub fn fields(b: Bridge) -> Fields {
     let sender = b.sending.sender;
     let piece = sender.piece;
@@ -507,17 +515,17 @@ pub fn fields(b: Bridge) -> Fields {
     f
 }
 
-fn are_held(held: [u16; 11], word: u16) -> bool {
+fn are_held(held: [u16; 12], word: u16) -> bool {
     let mut same = true;
     let mut i: usize = 0;
-    while i < 11 {
+    while i < 12 {
         same = same & (held[i] == word);
         i = i + 1;
     }
     same
 }
 
-// Whether these are the record's numbers, and its eleven held words alike.
+// Whether these are the record's numbers, and its twelve held words alike.
 pub fn is(f: &Fields, b: Bridge) -> bool {
     let own = fields(b);
     let held = b.frame.held;

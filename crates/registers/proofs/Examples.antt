@@ -6,7 +6,7 @@ use Rattle.base.specs.Pick.{pick}
 use Rattle.registers.specs.declared.Flags.{Flags}
 use Rattle.registers.specs.declared.Control.{Control}
 use Rattle.registers.specs.declared.Mode.the-variants.{Init}
-use Rattle.registers.specs.Registers.{table, resetRegs, cleared, isNormal, isFailsafe, modeNumber, err, statusOf, powerUpFlags, powerUpControl}
+use Rattle.registers.specs.Registers.{table, rowOf, resetRegs, cleared, isNormal, isFailsafe, modeNumber, err, statusOf, powerUpFlags, powerUpControl}
 use Rattle.registers.specs.Writing.{modeAfter, writeStatus, writeMasked, writeOf}
 
 power-up : statusOf powerUpControl ≡ 0x0403
@@ -29,6 +29,7 @@ badOtpFlags = record {
   txffuvf = false;
   rxffovf = false;
   rxffuvf = false;
+  «bad_word» = rowOf 11 .reset;
 }
 
 abbrev badOtp : Control

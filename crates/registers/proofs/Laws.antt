@@ -21,7 +21,7 @@ use Rattle.registers.specs.Writing.{withSpictrl, withTxfflvl, withRxfflv
 resets : ℕ → Register → Bool
 resets address entry = eqb (readOf powerUpControl 0 0 address) (entry .reset)
 
-pub reset-reads : (a : ℕ) → a < 11 → readOf powerUpControl 0 0 a ≡ rowOf a .reset
+pub reset-reads : (a : ℕ) → a < 12 → readOf powerUpControl 0 0 a ≡ rowOf a .reset
 unfolding resets table readOf powerUpControl powerUpFlags resetRegs statusOf ifstOf fifoOf err bit odd flag
 reset-reads a h = eqb-true _ _ (holds-at resets (row 0 0) table refl a h)
 

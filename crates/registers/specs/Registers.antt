@@ -1,4 +1,4 @@
--- The registers and what each address reads (01 Registers; 001 7.6.1 to 7.6.11). Assumes nothing.
+-- The registers and what each address reads (01 Registers; 02 item 4; 001 7.6.1 to 7.6.11). Assumes nothing.
 use mathlib.Core.Bool.{Bool, true, false, not, _&&_, _||_}
 use mathlib.Core.List.{List, [], _∷_}
 use Prim.Native.Nat.{ℕ, _+_, _*_, min}
@@ -31,6 +31,7 @@ table =
     ∷ row 0x0000 0x0000  -- 8 IFST. 001 7.6.9
     ∷ row 0x0000 0x0000  -- 9 TXFFST. 001 7.6.10
     ∷ row 0x0000 0x0000  -- 10 RXFFST. 001 7.6.11
+    ∷ row 0x0000 0x0000  -- 11 BADWORD: the word whose check bit was bad. 02 item 4; its name is ours
     ∷ []
 
 abbrev pub rowOf : ℕ → Register
@@ -59,7 +60,7 @@ regsSound r =
     eqb (bitAnd (r .spictrl) (rowOf 1 .writable)) (r .spictrl) && ltb (r .txfflvl) txLevels && ltb (r .rxfflvl) rxLevels
     && eqb (bitAnd (r .diagmask) (rowOf 6 .writable)) (r .diagmask)
 
--- "Clearing clears all but OTP"
+-- "Clearing clears all but OTP"; the number of the bad word goes with its flag (02 item 4)
 unfoldable pub cleared : Flags → Flags
 cleared f = record {
   otp = f .otp;
@@ -76,6 +77,7 @@ cleared f = record {
   txffuvf = false;
   rxffovf = false;
   rxffuvf = false;
+  «bad_word» = 0;
 }
 
 -- "Blocking flags are TXFFOVF, TXFFUVF and QUEUE_OVF." 01 Notes
@@ -153,6 +155,7 @@ readOf c txCount rxCount address =
     ∷ ifstOf (c .flags)
     ∷ fifoOf (c .flags .txffovf) (c .flags .txffuvf) 511 txCount
     ∷ fifoOf (c .flags .rxffovf) (c .flags .rxffuvf) 255 rxCount
+    ∷ c .flags .«bad_word»
     ∷ [])
     address
     0
@@ -174,6 +177,7 @@ powerUpFlags = record {
   txffuvf = false;
   rxffovf = false;
   rxffuvf = false;
+  «bad_word» = rowOf 11 .reset;
 }
 
 unfoldable pub powerUpControl : Control

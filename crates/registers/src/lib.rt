@@ -1,9 +1,10 @@
-// The registers (01 Registers; 001 7.6): the table, the flags, what each address reads and what a write does. Only this crate knows the
-// places of their bits.
+// The registers (01 Registers; 02 item 4; 001 7.6): the table, the flags, what each address reads and what a write does. Only this crate knows
+// the places of their bits.
 mod raising;
 mod word;
 
 pub use raising::raise;
+pub use raising::went_bad;
 pub use word::bit;
 ghost use mathlib.Core.Path.{_≡_};
 ghost use Rattle.registers.specs.Registers.{cleared, blocking as blockingOf, isNormal, isFailsafe, regsSound, powerUpControl};
@@ -21,7 +22,8 @@ pub enum Mode {
     Failsafe,
 }
 
-// The flags: OTP, POR, SRST, REG_WRITE, SPI_CRC of STATUS; SPI_CS, QUEUE_OVF, CHECK_BIT, line CRC, SIN of IFST; those of the FIFOs.
+// The flags: OTP, POR, SRST, REG_WRITE, SPI_CRC of STATUS; SPI_CS, QUEUE_OVF, CHECK_BIT, line CRC, SIN of IFST; those of the FIFOs. Beside them
+// what register 11 shows: the number of the word that CHECK_BIT went up for, 0 while it is down (02 item 4).
 pub struct Flags {
     pub otp: bool,
     pub por: bool,
@@ -37,6 +39,7 @@ pub struct Flags {
     pub txffuvf: bool,
     pub rxffovf: bool,
     pub rxffuvf: bool,
+    pub bad_word: u16,
 }
 
 // The registers that hold what was written.
@@ -55,14 +58,13 @@ pub struct Control {
     pub regs: Regs,
 }
 
-// The flags that events raise, by name.
+// The flags that events raise, by name. CHECK_BIT has no name here: it goes up with its number (`went_bad`).
 pub enum Flag {
     Srst,
     RegWrite,
     SpiCrc,
     SpiCs,
     QueueOvf,
-    CheckBit,
     LineCrc,
     SinStuck,
     TxOvf,
@@ -85,7 +87,7 @@ pub struct Written {
 }
 
 // By address (01's table): what power-up, write and read go by.
-pub const TABLE: [Register; 11] = [
+pub const TABLE: [Register; 12] = [
     // 0 DEVID
     Register {
         reset: 0x0000,
@@ -141,6 +143,11 @@ pub const TABLE: [Register; 11] = [
         reset: 0x0000,
         writable: 0x0000,
     },
+    // 11 BADWORD
+    Register {
+        reset: 0x0000,
+        writable: 0x0000,
+    },
 ];
 
 impl Regs {
@@ -173,6 +180,7 @@ impl Control {
             txffuvf: false,
             rxffovf: false,
             rxffuvf: false,
+            bad_word: TABLE[11].reset,
         },
         regs: Regs::RESET,
     };
@@ -203,6 +211,7 @@ pub fn cleared_flags(flags: Flags) -> Flags
         txffuvf: false,
         rxffovf: false,
         rxffuvf: false,
+        bad_word: 0,
     }
 }
 

@@ -29,7 +29,7 @@ use Rattle.queue.proofs.Laws.{busy-begun}
 use Rattle.rules.specs.Sound.{ringSound, lastLeft, ledger, sound}
 use Rattle.place_rules.specs.Places.{placeSound, isFresh, waits, awaits, roleSound, slotSound, slotsBelow, queueSound}
 use Rattle.line_rules.specs.Line.{pieceSound, senderSound, earSound, marksSound, readerSound, endSound}
-use Rattle.frame_rules.specs.Frames.{otpSound, controlSound, isUnmarked}
+use Rattle.frame_rules.specs.Frames.{otpSound, badWordSound, controlSound, isUnmarked}
 use Rattle.rules.specs.Facts.{Standing, SenderFit, Balanced, Sound, allSome}
 
 pub ring-fit : (size : ℕ) (r : Ring) → ringSound size r ≡ true → RingFit size r
@@ -219,7 +219,8 @@ sound-facts b h =
       regs = search (and-l, and-r) depth 30;
       control = record {
         otp = search (and-l, and-r) depth 30;
-        drdy = and-r (regsSound (b .control .regs) && otpSound (b .control .mode) (b .control .flags .otp)) _ c;
+        drdy = and-r (regsSound (b .control .regs) && otpSound (b .control .mode) (b .control .flags .otp)) _ (and-l _ _ c);
+        word = search (and-l, and-r) depth 30;
         marked = not-true _ (search (and-l, and-r) depth 30);
       };
       queue = queue-fit (b .sending .queue) q;
@@ -237,7 +238,7 @@ sound-from b f =
     and-both _ _ (and-both _ _ (and-both _ _ (and-both _ _ (and-both _ _ (and-both _ _ (and-both _ _ (and-both _ _
     (ring-from 512 (b .sending .tx) (f .tx))
     (ring-from 256 (b .receiving .rx) (f .rx)))
-    (and-both _ _ (and-both _ _ (f .regs) (f .control .otp)) (f .control .drdy)))
+    (and-both _ _ (and-both _ _ (and-both _ _ (f .regs) (f .control .otp)) (f .control .drdy)) (f .control .word)))
     (queue-from (b .sending .queue) (f .queue) (f .standing)))
     (sender-from (b .sending .sender) (b .sending .queue) (f .sender)))
     (and-both _ _ (f .ear) (f .marks)))

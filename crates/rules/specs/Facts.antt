@@ -20,7 +20,7 @@ use Rattle.state.specs.declared.Phase.{Phase}
 use Rattle.state.specs.declared.Bridge.{Bridge}
 use Rattle.place_rules.specs.Places.{waits, awaits}
 use Rattle.line_rules.specs.Line.{pieceSound, earSound, marksSound}
-use Rattle.frame_rules.specs.Frames.{otpSound, drdySound, isUnmarked}
+use Rattle.frame_rules.specs.Frames.{otpSound, drdySound, badWordSound, isUnmarked}
 use Rattle.rules.specs.Sound.{lastLeft}
 
 -- the places in use are at most eight; each command older than the youngest that has begun is sent and not yet read, its ENDs gone, that one is not done, and
@@ -40,6 +40,7 @@ pub record SenderFit (s : Sender) (q : Queue) : Type 0 where
 pub record ControlRules (c : Control) (count : ℕ) (p : Phase) : Type 0 where
   pub otp : otpSound (c .mode) (c .flags .otp) ≡ true
   pub drdy : drdySound (c .drdy) (c .regs .rxfflvl) count ≡ true
+  pub word : badWordSound (c .flags) ≡ true
   pub marked : (blocking (c .flags) && isUnmarked p) ≡ false
 
 -- the sum that keeps every word with its command, and what is still to come is for the youngest one

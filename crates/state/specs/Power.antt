@@ -53,6 +53,7 @@ badControl = record {
     txffuvf = false;
     rxffovf = false;
     rxffuvf = false;
+    «bad_word» = powerUpControl .flags .«bad_word»;
   };
   regs = powerUpControl .regs;
 }

@@ -115,7 +115,7 @@ pub struct Fwd {
 // The phase, and the words that REG_WR_CRC holds until its CRC word.
 pub struct Frame {
     pub phase: Phase,
-    pub held: [u16; 11],
+    pub held: [u16; 12],
 }
 
 // The last clock reading, the watchdog's mark, the SIN watch with its mark, and the last SIN bit.
@@ -219,7 +219,7 @@ impl Bridge {
         },
         frame: Frame {
             phase: Phase::Idle,
-            held: [0; 11],
+            held: [0; 12],
         },
         clock: Clock {
             reading: 0,

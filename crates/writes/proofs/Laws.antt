@@ -37,7 +37,7 @@ module _ (busy : Bool) (address count : ℕ) (held : List ℕ) (first : Effects)
         let d : drop i (take count held) ≡ [] = rw z (slice-empty count held) in
         rw (← f) (rw d at (v .whole))
 
-    pub to-next : (w : Written) (after : Effects) → length held ≡ 11 → address + count ≤ 11 → i < count → w ≡ writeOf (e .control) busy (address + i) (getD held i 0)
+    pub to-next : (w : Written) (after : Effects) → length held ≡ 12 → address + count ≤ 12 → i < count → w ≡ writeOf (e .control) busy (address + i) (getD held i 0)
         → after ≡ withWrite e w → Writing after (i + 1)
     unfolding writeAll
     to-next w after l k h p q =

@@ -25,7 +25,7 @@ use Rattle.plan.specs.declared.Receive.the-variants.{LeaveRx, EmptyRx}
 -- "sender or reader is busy": the reader from its 0 to its END, discarding included (docs/DECISIONS.md)
 unfoldable pub isQuiet : Ear → Bool
 isQuiet Quiet = true
-isQuiet (Group value bits ones) = false
+isQuiet (Group number value bits ones) = false
 isQuiet (Lost ones) = false
 
 abbrev pub busy : Bridge → Bool

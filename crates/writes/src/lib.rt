@@ -35,6 +35,7 @@ fn is_quiet(ear: Ear) -> bool
     match ear {
         Ear::Quiet => true,
         Ear::Group {
+            number: _,
             value: _,
             bits: _,
             ones: _,
@@ -92,8 +93,8 @@ fn no_effects(control: Control) -> Effects
 }
 
 // The first `count` held words to consecutive registers.
-pub fn write_all(control: Control, busy: bool, address: u16, held: [u16; 11], count: u16) -> Effects
-    requires { ⌜ address + count ≤ 11 ⌝ }
+pub fn write_all(control: Control, busy: bool, address: u16, held: [u16; 12], count: u16) -> Effects
+    requires { ⌜ address + count ≤ 12 ⌝ }
     ensures { λ r. ⌜ r ≡ writeAll (noEffects control) busy address (take count held) ⌝ }
 {
     let mut effects = no_effects(control);
@@ -155,7 +156,7 @@ pub fn effected(bridge: Bridge, phase: Phase, effects: Effects, status: bool) ->
 
 // A word of REG_WR_CRC waits for the CRC word.
 fn held_word(bridge: Bridge, phase: Phase, got: u16, word: u16) -> Plan
-    requires { ⌜ got < 11 ⌝ }
+    requires { ⌜ got < 12 ⌝ }
     ensures { λ r. ⌜ r ≡ heldWord bridge phase got word ⌝ }
 {
     let mut held = bridge.frame.held;
@@ -183,7 +184,7 @@ pub fn register_word(
     phase: Phase,
     word: u16,
 ) -> Plan
-    requires { ⌜ address + got < 11 ⌝ }
+    requires { ⌜ address + got < 12 ⌝ }
     ensures { λ r. ⌜ r ≡ registerWord bridge crc address got phase word ⌝ }
 {
     if crc {

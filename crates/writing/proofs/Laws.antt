@@ -30,8 +30,8 @@ pub to-cleared : (c : Control) (v : ℕ) (b : Bool) (f : Flags) (x : Written) �
 unfolding writeStatus
 to-cleared c v b f x e h k l = pick-told b _ x _ _ e h (l ∙ ap (λ (g : Flags). written (withFlags c g) Nothing) k)
 
--- there is no row above 10
-pub no-row : (a : ℕ) → 11 ≤ a → 0 ≡ rowOf a .writable
+-- there is no row above 11
+pub no-row : (a : ℕ) → 12 ≤ a → 0 ≡ rowOf a .writable
 unfolding table
 no-row a h = ap (λ (r : Register). r .writable) (sym (List·getD-eq-default table (row 0 0) h))
 

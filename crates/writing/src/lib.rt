@@ -18,7 +18,7 @@ ghost use Rattle.registers.specs.Writing.{written, withRegs, withSpictrl, withD
 fn writable(address: u16) -> u16
     ensures { λ r. ⌜ r ≡ rowOf address .writable ⌝ }
 {
-    if address < 11 {
+    if address < 12 {
         return TABLE[address as usize].writable;
     }
     0

@@ -12,4 +12,4 @@ read-spec =
     (λ c κs. search needs) (λ c. search (needs, to-read)) (λ c. search (needs, to-read)) (λ c. search (needs, to-read))
     (λ c. search (needs, to-read)) (λ c. search (needs, to-read)) (λ c. search (needs, to-read)) (λ c. search (needs, to-read))
     (λ c. search (needs, to-read)) (λ c. search (needs, to-read)) (λ c. search (needs, to-read)) (λ c. search (needs, to-read))
-    (λ c. search (needs, to-none)))
+    (λ c. search (needs, to-read)) (λ c. search (needs, to-none)))

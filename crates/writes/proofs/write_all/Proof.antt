@@ -14,9 +14,9 @@ Inv-loop busy address count held effects₀ i₀ effects i = Writing busy addres
 abbrev μ-loop : tie.MeasureT-loop
 μ-loop busy address count held effects₀ i₀ effects i = count - i
 
--- what is held has eleven words
-eleven : (c : tie.Start Inv-loop μ-loop) → length (c .args .t4) ≡ 11
-eleven c = good-length (eInt w16) 11 (c .args .t4) _ (c .good .1 .1 .1 .0)
+-- what is held has twelve words
+twelve : (c : tie.Start Inv-loop μ-loop) → length (c .args .t4) ≡ 12
+twelve c = good-length (eInt w16) 12 (c .args .t4) _ (c .good .1 .1 .1 .0)
 
 no-effects-requires : tie.Need-no-effects-requires Inv-loop μ-loop
 no-effects-requires c κs = search needs
@@ -50,7 +50,7 @@ loop-less c = search needs
 
 loop-again : tie.Need-loop-again Inv-loop μ-loop
 loop-again c =
-    to-next _ _ _ _ _ _ _ (c .before .before .before .loop .inv) _ _ (eleven (c .before .before .before .before .before))
+    to-next _ _ _ _ _ _ _ (c .before .before .before .loop .inv) _ _ (twelve (c .before .before .before .before .before))
     (c .before .before .before .before .before .pre) (c .before .before .loop-test .taken) (c .before .write .ensures) (c .with-write .ensures)
 
 returns : tie.Need-returns Inv-loop μ-loop
