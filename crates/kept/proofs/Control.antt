@@ -32,6 +32,7 @@ use Rattle.registers.specs.Writing.{withRegs, modeAfter, writeCcsictrl, writeTx
 use Rattle.registers.specs.declared.Control.{Control}
 use Rattle.registers.specs.declared.Flag.{Flag}
 use Rattle.registers.specs.declared.Flag.the-variants.{Srst, RegWrite, SpiCrc, SpiCs, RxUvf}
+use Rattle.registers.specs.declared.Flags.{Flags}
 use Rattle.registers.specs.declared.Mode.{Mode}
 use Rattle.registers.specs.declared.Mode.the-variants.{Normal, Init, Failsafe}
 use Rattle.registers.specs.declared.Regs.{Regs}
@@ -100,10 +101,26 @@ isReset (TakeBack n) = false
 isReset ClearAll = false
 isReset ResetAll = true
 
+-- CHECK_BIT and its number stay, or are cleared with the flags (02 item 4)
+pub data Numbered (f g : Flags) : Type 0 where
+  same-number : g .«check_bit» ≡ f .«check_bit» → g .«bad_word» ≡ f .«bad_word» → Numbered f g
+  no-number : g .«check_bit» ≡ false → g .«bad_word» ≡ 0 → Numbered f g
+
+numbered-then : {f g h : Flags} → Numbered f g → Numbered g h → Numbered f h
+numbered-then (same-number a b) (same-number c d) = same-number (c ∙ a) (d ∙ b)
+numbered-then (no-number a b) (same-number c d) = no-number (c ∙ a) (d ∙ b)
+numbered-then (same-number a b) (no-number c d) = no-number c d
+numbered-then (no-number a b) (no-number c d) = no-number c d
+
+-- either way the register's rule is kept
+pub numbered-sound : {f g : Flags} → Numbered f g → badWordSound f ≡ true → badWordSound g ≡ true
+numbered-sound (same-number a b) n = rw (a, b) n
+numbered-sound (no-number a b) n = rw (a, b)
+
 -- a blocking flag rises with a transmit clear, an RX flag with a stop; "Soft reset (note 0): both, without the END, and reader to idle"
 pub record Rises (b : Bridge) (p : Plan) : Type 0 where
   pub otp : otpSound (p .control .mode) (p .control .flags .otp) ≡ true
-  pub word : badWordSound (p .control .flags) ≡ true
+  pub number : Numbered (b .control .flags) (p .control .flags)
   pub marked : (blocking (p .control .flags) && isUnmarked (p .phase)) ≡ false
   pub hears : rxff (p .control .flags) ≡ true → (rxff (b .control .flags) || stops (p .receive)) ≡ true
   pub resets : isReset (p .deed) ≡ true → p .receive ≡ ResetRx
@@ -112,28 +129,33 @@ pub record Rises (b : Bridge) (p : Plan) : Type 0 where
 
 record Tame (c d : Control) : Type 0 where
   otp : otpSound (c .mode) (c .flags .otp) ≡ true → otpSound (d .mode) (d .flags .otp) ≡ true
-  word : badWordSound (c .flags) ≡ true → badWordSound (d .flags) ≡ true
+  number : Numbered (c .flags) (d .flags)
   blocks : blocking (d .flags) ≡ true → blocking (c .flags) ≡ true
   hears : rxff (d .flags) ≡ true → rxff (c .flags) ≡ true
 
 tame-same : (c : Control) → Tame c c
-tame-same c = record { otp = λ h. h; word = λ h. h; blocks = λ h. h; hears = λ h. h }
+tame-same c = record { otp = λ h. h; number = same-number refl refl; blocks = λ h. h; hears = λ h. h }
 
 tame-then : (c d e : Control) → Tame c d → Tame d e → Tame c e
 tame-then c d e s t = record {
   otp = λ h. t .otp (s .otp h);
-  word = λ h. t .word (s .word h);
+  number = numbered-then (s .number) (t .number);
   blocks = λ h. s .blocks (t .blocks h);
   hears = λ h. s .hears (t .hears h);
 }
 
 tame-regs : (c : Control) (r : Regs) → Tame c (withRegs c r)
-tame-regs c r = record { otp = λ h. h; word = λ h. h; blocks = λ h. h; hears = λ h. h }
+tame-regs c r = record { otp = λ h. h; number = same-number refl refl; blocks = λ h. h; hears = λ h. h }
 
 -- a flag that is neither
 tame-raised : (c : Control) (n : Flag) → blocking (raised (c .flags) n) ≡ blocking (c .flags) → rxff (raised (c .flags) n) ≡ rxff (c .flags)
     → Tame c (raisedIn c n)
-tame-raised c n e f = record { otp = λ h. unfold raised in h; word = λ h. unfold raised in h; blocks = λ h. sym e ∙ h; hears = λ h. sym f ∙ h }
+tame-raised c n e f = record {
+  otp = λ h. unfold raised in h;
+  number = unfold raised in same-number refl refl;
+  blocks = λ h. sym e ∙ h;
+  hears = λ h. sym f ∙ h;
+}
 
 -- "Bad OTP stays in INIT"
 mode-otp : (m : Mode) (otp : Bool) (v : ℕ) → otpSound m otp ≡ true → otpSound (modeAfter m v) otp ≡ true
@@ -155,13 +177,13 @@ write-tame c busy (suc (suc (suc zero))) v = tame-regs c _
 write-tame c busy (suc (suc (suc (suc zero)))) v = tame-regs c _
 write-tame c busy (suc (suc (suc (suc (suc zero))))) v = record {
   otp = λ h. mode-otp (c .mode) (c .flags .otp) _ h;
-  word = λ h. h;
+  number = same-number refl refl;
   blocks = λ h. h;
   hears = λ h. h;
 }
 write-tame c busy (suc (suc (suc (suc (suc (suc zero)))))) v = tame-regs c _
 write-tame c busy (suc (suc (suc (suc (suc (suc (suc zero))))))) v =
-    pick-keeps (Tamely c) _ _ _ (λ h. record { otp = λ e. e; word = λ e. refl; blocks = λ e. cc; hears = λ e. cc }) (λ h. tame-same c)
+    pick-keeps (Tamely c) _ _ _ (λ h. record { otp = λ e. e; number = no-number refl refl; blocks = λ e. cc; hears = λ e. cc }) (λ h. tame-same c)
 write-tame c busy (suc (suc (suc (suc (suc (suc (suc (suc a)))))))) v = tame-same c
 
 write-all-tame : (c : Control) (e : Effects) (busy : Bool) (address : ℕ) (vs : List ℕ) → Tame c (e .control)
@@ -175,7 +197,7 @@ write-all-tame c e busy address (v ∷ vs) t =
 
 record Pays (c : Control) (g : Granted) : Type 0 where
   otp : otpSound (c .mode) (c .flags .otp) ≡ true → otpSound (faulted c (g .note) .mode) (faulted c (g .note) .flags .otp) ≡ true
-  word : badWordSound (c .flags) ≡ true → badWordSound (faulted c (g .note) .flags) ≡ true
+  number : Numbered (c .flags) (faulted c (g .note) .flags)
   blocks : blocking (faulted c (g .note) .flags) ≡ true → (blocking (c .flags) || clears (g .deed)) ≡ true
   hears : rxff (faulted c (g .note) .flags) ≡ true → rxff (c .flags) ≡ true
   stands : isReset (g .deed) ≡ false
@@ -183,20 +205,22 @@ record Pays (c : Control) (g : Granted) : Type 0 where
 guard-pays : (c : Control) (blocked : Bool) (count : ℕ) (q : Queue) (w : Wish) → Pays c (guard blocked count q w)
 unfolding guard faulted raised clears isReset
 guard-pays c blocked count q w =
-    pick-keeps (Pays c) _ _ _ (λ h. record { otp = λ e. e; word = λ e. e; blocks = λ e. or-left _ _ e; hears = λ e. e; stands = refl })
-    (λ h. pick-keeps (Pays c) _ _ _ (λ k. record { otp = λ e. e; word = λ e. e; blocks = λ e. or-true (blocking (c .flags)); hears = λ e. e; stands = refl })
+    pick-keeps (Pays c) _ _ _ (λ h. record { otp = λ e. e; number = same-number refl refl; blocks = λ e. or-left _ _ e; hears = λ e. e; stands = refl })
+    (λ h. pick-keeps (Pays c) _ _ _
+    (λ k. record { otp = λ e. e; number = same-number refl refl; blocks = λ e. or-true (blocking (c .flags)); hears = λ e. e; stands = refl })
     (λ k. pick-keeps (Pays c) _ _ _
-    (λ r. pick-keeps (Pays c) _ _ _ (λ u. record { otp = λ e. e; word = λ e. e; blocks = λ e. or-true (blocking (c .flags)); hears = λ e. e; stands = refl })
-    (λ u. record { otp = λ e. e; word = λ e. e; blocks = λ e. or-left _ _ e; hears = λ e. e; stands = refl }))
-    (λ r. record { otp = λ e. e; word = λ e. e; blocks = λ e. or-left _ _ e; hears = λ e. e; stands = refl })))
+    (λ r. pick-keeps (Pays c) _ _ _
+    (λ u. record { otp = λ e. e; number = same-number refl refl; blocks = λ e. or-true (blocking (c .flags)); hears = λ e. e; stands = refl })
+    (λ u. record { otp = λ e. e; number = same-number refl refl; blocks = λ e. or-left _ _ e; hears = λ e. e; stands = refl }))
+    (λ r. record { otp = λ e. e; number = same-number refl refl; blocks = λ e. or-left _ _ e; hears = λ e. e; stands = refl })))
 
 -- 5. The plans of a host word.
-module _ (b : Bridge) (o : otpSound (b .control .mode) (b .control .flags .otp) ≡ true) (n : badWordSound (b .control .flags) ≡ true) where
+module _ (b : Bridge) (o : otpSound (b .control .mode) (b .control .flags .otp) ≡ true) where
   tame-rises : (p : Plan) → Tame (b .control) (p .control) → isUnmarked (p .phase) ≡ false → (isReset (p .deed) ≡ true → p .receive ≡ ResetRx)
       → Rises b p
   tame-rises p t u r = record {
     otp = t .otp o;
-    word = t .word n;
+    number = t .number;
     marked = and-none (blocking (p .control .flags)) _ u;
     hears = λ h. or-left _ _ (t .hears h);
     resets = r;
@@ -216,7 +240,7 @@ module _ (b : Bridge) (o : otpSound (b .control .mode) (b .control .flags .otp) 
   unfolding forwarded isUnmarked
   forwarded-rises f at g m y = record {
     otp = y .otp o;
-    word = y .word n;
+    number = y .number;
     marked = go (blocking (faulted (b .control) (g .note) .flags)) (blocking (b .control .flags)) (clears (g .deed)) (y .blocks) m;
     hears = λ h. or-left _ _ (y .hears h);
     resets = λ h. cc (y .stands);
@@ -277,7 +301,7 @@ module _ (b : Bridge) (o : otpSound (b .control .mode) (b .control .flags .otp) 
       let y = guard-pays (b .control) blocked (b .sending .tx .count) (b .sending .queue) _ in
       record {
         otp = y .otp o;
-        word = y .word n;
+        number = y .number;
         marked = and-none (blocking (forwardClosed b crc words ends reads blocked .control .flags)) _ refl;
         hears = λ h. or-left _ _ (y .hears h);
         resets = λ h. cc (y .stands);
@@ -321,7 +345,7 @@ module _ (b : Bridge) (o : otpSound (b .control .mode) (b .control .flags .otp) 
   unfolding answerWith raised blocking isReset stops
   empty-rises p u = record {
     otp = o;
-    word = n;
+    number = same-number refl refl;
     marked = and-none (blocking (b .control .flags)) _ u;
     hears = λ e. or-true (rxff (b .control .flags));
     resets = λ e. cc;
@@ -363,11 +387,11 @@ module _ (b : Bridge) (o : otpSound (b .control .mode) (b .control .flags .otp) 
 pub planned-rises : (l : Layout) (b : Bridge) (w x : ℕ) → ControlRules (b .control) (b .receiving .rx .count) (b .frame .phase)
     → Rises b (planned l b w x)
 unfolding planned
-planned-rises l b w x r = planned-in-rises b (r .otp) (r .word) l (b .frame .phase) w x (r .marked)
+planned-rises l b w x r = planned-in-rises b (r .otp) l (b .frame .phase) w x (r .marked)
 
 pub released-rises : (b : Bridge) → ControlRules (b .control) (b .receiving .rx .count) (b .frame .phase)
     → Rises b (releasedIn b (b .frame .phase))
-released-rises b r = released-in-rises b (r .otp) (r .word) (b .frame .phase)
+released-rises b r = released-in-rises b (r .otp) (b .frame .phase)
 
 -- 6. A plan carried out.
 
@@ -380,8 +404,9 @@ concluded-marked l status blocks c p m =
     (λ h. pick-keeps (λ (q : Phase). (blocks && isUnmarked q) ≡ false) _ Idle _ (λ k. and-none blocks _ refl) (λ k. and-none blocks _ refl))
     (λ h. m)
 
-pub performed-control : (l : Layout) (b : Bridge) (clock : Clock) (p : Plan) → Rises b p
+pub performed-control : (l : Layout) (b : Bridge) (clock : Clock) (p : Plan) → badWordSound (b .control .flags) ≡ true → Rises b p
     → ControlRules (performed l b clock p .control) (performed l b clock p .receiving .rx .count) (performed l b clock p .frame .phase)
 unfolding performed
-performed-control l b clock p r =
-    settled-control (p .control) _ false _ (r .otp) (r .word) (concluded-marked l (p .status) (blocking (p .control .flags)) _ (p .phase) (r .marked))
+performed-control l b clock p n r =
+    settled-control (p .control) _ false _ (r .otp) (numbered-sound (r .number) n)
+    (concluded-marked l (p .status) (blocking (p .control .flags)) _ (p .phase) (r .marked))

@@ -83,6 +83,6 @@ performed-keeps l b clock p r k v =
       rx = h .rx;
       ear = h .ear;
       marks = performed-marks b p r v (k .leaves .asks);
-      control = performed-control l b clock p v;
+      control = performed-control l b clock p (r .control .word) v;
       regs = k .regs;
     }

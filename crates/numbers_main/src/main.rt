@@ -1,6 +1,8 @@
-// Runs the rows of 01 Numbers on both sides that no theorem states, and prints what it found.
+// Runs the rows of 01 Numbers on both sides that no theorem states, and the number at which register 11 stops (02 item 4), and prints what it
+// found.
 use events::Event;
 use libc::STDOUT_FILENO;
+use line::Piece;
 use state::Bridge;
 use state::Clock;
 
@@ -84,7 +86,50 @@ fn watch() {
     read_clock(first, &mut tx, &mut rx, 2);
 }
 
+// The first bits of a word on SIN.
+fn heard(start: Bridge, tx: &mut [u16], rx: &mut [u16], word: u16, bits: u16) -> Bridge {
+    let mut b = start;
+    let mut i: u16 = 0;
+    while i < bits {
+        let sin = line::piece_bit(Piece::WordPiece(word), i);
+        b = event(b, tx, rx, Event::Tick(sin));
+        i = i + 1;
+    }
+    b
+}
+
+// Words with their right check bits.
+fn words_heard(start: Bridge, tx: &mut [u16], rx: &mut [u16], word: u16, words: u32) -> Bridge {
+    let mut b = start;
+    let mut i: u32 = 0;
+    while i < words {
+        b = heard(b, tx, rx, word, 17);
+        i = i + 1;
+    }
+    b
+}
+
+// "counting from 0 and stopping at 65,535": a command of so many right words comes back, then one with a wrong check bit.
+fn bad_after(words: u32) {
+    let mut tx = [0u16; 512];
+    let mut rx = [0u16; 256];
+    let ready = cleared(&mut tx, &mut rx);
+    let begun = event(ready, &mut tx, &mut rx, Event::Tick(false));
+    let right = words_heard(begun, &mut tx, &mut rx, 1, words);
+    let sixteen = heard(right, &mut tx, &mut rx, 1, 16);
+    let bad = event(sixteen, &mut tx, &mut rx, Event::Tick(true));
+    let asked = event(bad, &mut tx, &mut rx, Event::Word(0xD00B));
+    let told = event(asked, &mut tx, &mut rx, Event::Word(0xB943));
+    let answer = bridge::step(told, &mut tx, &mut rx, Event::Word(0xFFFF));
+    print_number(b"bad word behind ", words as u64, b" right ones: ");
+    print_number(b"register 11 reads ", answer.sdo as u64, b"\n");
+}
+
 fn main() {
     ends_alone();
     watch();
+    bad_after(0);
+    bad_after(65534);
+    bad_after(65535);
+    bad_after(65536);
 }

@@ -1,0 +1,3 @@
+mod Events
+pub mod BadWord
+mod Examples
