@@ -80,7 +80,7 @@ CALLS = [
     (STATUS, ["4401", "0010", "0000", "0000"], b"", 0, None, ""),
     (STATUS, ["4401", "0008", "0000", "0000", "0005", "163E"], b"", 1, None, ""),
     (STATUS, ["4401", "0008", "0000", "0000", "0005"], b"", 1, None, ""),
-    (STATUS, 7 * ["0400"], b"", 2, b"", "one to five words and their CRC, not 7; see tools/status --help"),
+    (STATUS, 7 * ["0400"], b"", 2, b"", "or five and their CRC, not 7; see tools/status --help"),
     (BOARD, [HEAVY], b"", 0, FORTY, ""),
     (BOARD, [], HEAVY.read_bytes(), 0, FORTY, ""),
     (BOARD, ["-"], b"\xef\xbb\xbf" + HEAVY.read_bytes().replace(b"\n", b"\r\n"), 0, FORTY, ""),
@@ -93,7 +93,7 @@ CALLS = [
     (BOARD, ["nowhere"], b"", 1, b"", "nowhere: .*No such file"),
     (BOARD, ["a", "b"], b"", 2, b"", "one FILE, not 2; see tools/board --help"),
     (BOARD, ["-x"], b"", 2, b"", "no option -x"),
-    (STATUS, [], b"", 2, b"", "one to five words and their CRC, not 0; see tools/status --help"),
+    (STATUS, [], b"", 2, b"", "one to four words, or these and their CRC, or five and their CRC, not 0; see tools/status --help"),
     (STATUS, ["440"], b"", 2, b"", "expected four hex digits, found `440`"),
 ]
 # lines of frames, by name and in hex: the script, or a pattern of what is said
@@ -216,6 +216,9 @@ NUMBERS = [  # IFST, BADWORD, what is said of the number
     (0x0008, 4, "came on word 4 .* it is word 0 of driver 1,"),
     (0x0008, 0xFFFE, "came on word 65534 .* it is word 1 of driver 21844,"),
     (0x0008, 0xFFFF, "came on word 65535 of its command or a later one"),
+    (0x0018, 4, "it is word 0 of driver 1,.*But QUEUE_OVF is up: .* no driver's"),
+    (0x0208, 4, "it is word 0 of driver 1,.*But SPI_CS is up: .* no driver's"),
+    (0x000A, 0, "the head word.*But line CRC is up too"),
     (0x0000, 0, "CHECK_BIT is down"),
     (0x0000, 7, "the words are not of one reading"),
 ]
@@ -224,9 +227,9 @@ NUMBERS = [  # IFST, BADWORD, what is said of the number
 def bad_words():
     """The number of a bad word is told with its driver, and only beside CHECK_BIT."""
     for ifst, number, said in NUMBERS:
-        words = [0x4401 if ifst else 0x0400, ifst, 0, 0, number]
+        words = [0x0400 | (0x4001 if ifst else 0) | (0x0100 if ifst & 0x0200 else 0), ifst, 0, 0, number]
         told = subprocess.check_output([STATUS, *("%04X" % word for word in (*words, crc16(words)))]).decode()
-        if not re.search(r"^BADWORD %04X\n  .*%s" % (number, said), told, re.M):
+        if not re.search(r"^BADWORD %04X\n  (?s:.*)%s" % (number, said.replace(".*", "(?s:.*)")), told, re.M):
             yield "status: BADWORD %04X with IFST %04X is told as %r" % (number, ifst, told[-150:])
 
 

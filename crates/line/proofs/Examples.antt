@@ -99,10 +99,15 @@ pub seventeen-ones : numbersBy (damagedLine (0x0001 ∷ []) 0xFFFF (0x1234 ∷ [
 unfolding damagedLine numbersBy
 seventeen-ones = refl
 
--- beside another 1 they are END, and the words that follow are read as a command of their own
+-- beside another 1 they are END
 pub taken-for-end : numbersBy (damagedLine (0x0001 ∷ []) 0xFFFF []) ≡ []
 unfolding damagedLine numbersBy
 taken-for-end = refl
+
+-- and what follows is read as a command of its own, whose number says nothing of word 1
+pub number-of-another : numbersBy (damagedLine (0x0001 ∷ []) 0xFFFF (0xFFFD ∷ [])) ≡ 0 ∷ []
+unfolding damagedLine numbersBy
+number-of-another = refl
 
 -- the number stops: two right words and a bad one, the first of them word 65,534
 unfoldable pub threeWords : List Bool

@@ -210,7 +210,7 @@ which-word s before w after t k l f p =
     rw (damaged-at s before w after t, past-before s before k l .on (wrongBits w ++ behind after t))
     (wrong-answers (numberOf before) w (bitBefore false before) after t f p)
 
--- Where it does, that is real: END is read there, behind the words before it, and no number is answered.
+-- Where it does, that is real: END is read there, behind the words before it, and no number is answered up to there.
 pub passes-for-end : (s : List Segment) (before : List ℕ) (w : ℕ) (after : List ℕ) (t : List Segment) → Sixteen s → Words before
     → passesForEnd before w after ≡ true → EndedThere s before (damaged s before w after t)
 unfolding passesForEnd readLine

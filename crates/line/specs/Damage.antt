@@ -64,7 +64,7 @@ bitBehind (w ∷ ws) = bit 15 w
 unfoldable pub passesForEnd : List ℕ → ℕ → List ℕ → Bool
 passesForEnd before w after = eqb w allOnes && (bitBefore false before || bitBehind after)
 
--- then the command reads as one of the words before it, whole, and no number is answered for it
+-- then the command reads as one of the words before it, and up to there no number is answered; what follows is read as a line of its own
 pub record EndedThere (s : List Segment) (before : List ℕ) (line : List Bool) : Type 0 where
   pub bits : ℕ
   pub finished : readLine (take bits line) ≡ record { finished = commandsOf s ++ (before ∷ []); words = []; ear = Quiet }

@@ -1,21 +1,14 @@
 -- Flags in their places and the decisions by number, as the proofs of the functions ask them. Assumes nothing.
-use mathlib.Core.Path.{_≡_, refl, sym, _∙_, ap, ap₂}
-use mathlib.Core.Bool.{Bool, true, false, _&&_}
+use mathlib.Core.Path.{_≡_, refl, sym, _∙_, ap}
+use mathlib.Core.Bool.{Bool, true, false}
 use Prim.Native.Nat.{ℕ, suc, _-_, _*_, _%_, _^_, _≤_, _<_, zero-le}
 use native.Mathlib.Nat.{pow-le-pow-right, zero-lt-suc}
 use native.Mathlib.Omega.{arith}
-use native.Mathlib.Decide.{decLe}
-use lib.ListN.{List·getD-eq-default}
 use Rattle.base.specs.Arms.{past}
 use Rattle.base.specs.Bits.{bit, flag}
-use Rattle.base.specs.Pick.{pick, pick-true, pick-false, pick-told}
-use Rattle.registers.specs.declared.Register.{Register}
 use Rattle.registers.specs.declared.Control.{Control}
 use Rattle.registers.specs.declared.Flags.{Flags}
-use Rattle.registers.specs.declared.Written.{Written}
-use Rattle.registers.specs.declared.Effect.the-variants.{Nothing}
-use Rattle.registers.specs.Registers.{table, rowOf, row, cleared, readOf}
-use Rattle.registers.specs.Writing.{written, withFlags, writeStatus, writeMasked}
+use Rattle.registers.specs.Registers.{readOf}
 
 -- a flag's place in a word of sixteen bits
 place-lt : (k : ℕ) → k < 16 → 2 ^ k < 65536

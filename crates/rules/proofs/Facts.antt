@@ -29,7 +29,7 @@ use Rattle.queue.proofs.Laws.{busy-begun}
 use Rattle.rules.specs.Sound.{ringSound, lastLeft, ledger, sound}
 use Rattle.place_rules.specs.Places.{placeSound, isFresh, waits, awaits, roleSound, slotSound, slotsBelow, queueSound}
 use Rattle.line_rules.specs.Line.{pieceSound, senderSound, earSound, marksSound, readerSound, endSound}
-use Rattle.frame_rules.specs.Frames.{otpSound, badWordSound, controlSound, isUnmarked}
+use Rattle.frame_rules.specs.Frames.{otpSound, controlSound, isUnmarked}
 use Rattle.rules.specs.Facts.{Standing, SenderFit, Balanced, Sound, allSome}
 
 pub ring-fit : (size : ℕ) (r : Ring) → ringSound size r ≡ true → RingFit size r

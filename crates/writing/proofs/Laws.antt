@@ -1,8 +1,7 @@
 -- Flags in their places and the decisions by number, as the proofs of the functions ask them. Assumes nothing.
 use mathlib.Core.Path.{_≡_, refl, sym, _∙_, ap, ap₂}
 use mathlib.Core.Bool.{Bool, true, false, _&&_}
-use Prim.Native.Nat.{ℕ, suc, _-_, _*_, _%_, _^_, _≤_, _<_, zero-le}
-use native.Mathlib.Nat.{pow-le-pow-right, zero-lt-suc}
+use Prim.Native.Nat.{ℕ, suc, _-_, _≤_}
 use native.Mathlib.Omega.{arith}
 use native.Mathlib.Decide.{decLe}
 use lib.ListN.{List·getD-eq-default}
@@ -14,7 +13,7 @@ use Rattle.registers.specs.declared.Control.{Control}
 use Rattle.registers.specs.declared.Flags.{Flags}
 use Rattle.registers.specs.declared.Written.{Written}
 use Rattle.registers.specs.declared.Effect.the-variants.{Nothing}
-use Rattle.registers.specs.Registers.{table, rowOf, row, cleared, readOf}
+use Rattle.registers.specs.Registers.{table, rowOf, row, cleared}
 use Rattle.registers.specs.Writing.{written, withFlags, writeStatus, writeMasked}
 
 -- a choice by two answers
