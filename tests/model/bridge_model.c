@@ -226,7 +226,7 @@ static uint16_t read_register(const struct bridge *b, unsigned address)
     case IFST:      return interface_word(f);
     case TXFFST:    return fifo_word(f->tx_ovf, f->tx_uvf, b->tx.count, 511);
     case RXFFST:    return fifo_word(f->rx_ovf, f->rx_uvf, b->rx.count, 255);
-    case BADWORD: return b->check_word;
+    case BADWORD:   return b->check_word;
     default:        return 0;           /* DEVID, DEVCTRL */
     }
 }
