@@ -9,6 +9,7 @@
    frame's, and the library reads its answer as that order's. The bench program is compiled from its source without its proof
    (tests/mutation/outside.py), and the independent program (tests/model) prints the same of each script, byte for byte.
 3. examples/c/call_up.c prints what examples/c/call_up.out says, and its frames are those of tools/frames.py.
+4. The large table of the CRC (crates/crc16_wide) is not in the library: no eight of its entries stand there in a row (02 item 5).
 
 The library is proved first: about a minute. On another machine than x86-64, and without gcc, this says so and tries nothing.
 """
@@ -16,7 +17,9 @@ import concurrent.futures
 import os
 import pathlib
 import platform
+import re
 import shutil
+import struct
 import subprocess
 import sys
 import tempfile
@@ -124,6 +127,15 @@ def example(work):
     print("c_library: the example for C prints what it should")
 
 
+def without_table(library):
+    """The entries that the small table does not have, as the compiler lays constants out."""
+    entries = [int(text, 16) for text in re.findall(r"0x([0-9A-F]{4}),", (ROOT / "crates/crc16_wide/src/lib.rt").read_text())]
+    found = [at for at in range(16, len(entries), 8) if struct.pack("<8H", *entries[at:at + 8]) in library]
+    if found or len(entries) != 256:
+        sys.exit(f"c_library: the library has entries of the large CRC table, from {found[0]} on" if found else f"c_library: the large table has {len(entries)} entries")
+    print("c_library: no part of the large CRC table is in the library")
+
+
 def main():
     if platform.machine() not in ("x86_64", "AMD64"):
         print(f"c_library: skipped: the library for C is for x86-64, this machine is {platform.machine()}")
@@ -137,6 +149,7 @@ def main():
         tried(work)
         sent_all(work)
         example(work)
+    without_table(LIBRARY.read_bytes())
 
 
 if __name__ == "__main__":

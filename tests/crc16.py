@@ -1,5 +1,6 @@
 #!/usr/bin/env python3
-"""Recomputes crates/crc16_main/stdout by the standard library's CRC-CCITT and compares, byte for byte.
+"""Recomputes crates/crc16_main/stdout by the standard library's CRC-CCITT and compares, byte for byte. Each line has the same number twice: by the
+table of sixteen entries, and by that of 256.
 
 crc16.py          `crc16: N lines agree`, or the first line that differs and exit status 1
 crc16.py --write  writes the file
@@ -36,7 +37,7 @@ def generated(seed, count):
 def expected():
     lines = ["%08x" % block(high) for high in range(256)]
     lines += ["%04x" % crc(generated(n, 8 * n)) for n in range(512)]
-    return "".join(line + "\n" for line in lines)
+    return "".join(f"{line} {line}\n" for line in lines)
 
 
 def main():

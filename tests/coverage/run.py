@@ -23,14 +23,13 @@ import subprocess
 import sys
 import tempfile
 
+from controller import LINKED
 from counting import ROOT, Counting
 from source import functions
 
 sys.path.insert(0, str(ROOT / "tests/model"))
 from pair import built_model, joined  # noqa: E402
 
-LINKED = """base crc16 command registers reading writing line state queue deeds next place_rules line_rules frame_rules rules sender reader plan
-    forwards writes closing release answers host kept ticks clock events quick bridge drain""".split()
 CRATES = LINKED + ["script", "playing"]
 GROUPS = ("random", "examples", "edges", "refusals", "others")
 PROGRAMS = {"refusals": "refusals", "numbers_main": "others", "crc16_main": "others", "command_main": "others", "speed": "others"}

@@ -6,7 +6,8 @@ measure.py --instructions    counts instructions instead, with valgrind: the sam
                              second round over its events
 
 Each workload runs in both programs by turns, nine times; the least user time of each counts. Both print how much was done and a sum of all
-answers; they must print the same. Nanoseconds are for one event, or for one tick of a drain.
+answers; they must print the same. Nanoseconds are for one event, for one tick of a drain, or for one word of a CRC. What the CRC's table costs by
+itself is counted by tables.py.
 """
 import os
 import pathlib
@@ -51,6 +52,13 @@ FULL = POWER_UP + CLEAR_POR + forwards(8, 64)  # all eight places and all of TX
 def steady(before, kind, value):
     """A state that stands still under the events measured: POR is up, so that nothing begins."""
     return POWER_UP + before + event(kind, value) * (ROUND - len(POWER_UP + before) // 3)
+
+
+def echoed(script, ticks):
+    """The script, and so many ticks whose SIN bits are the SOUT bits of the tick before: what was sent is read back. SOUT by the independent program."""
+    silent = subprocess.run([os.environ["BRIDGE_MODEL"], "/dev/stdin"], input=HEAD + script + event(TICK, 1) * ticks, capture_output=True, check=True).stdout
+    sout = [int(line.split()[-1]) for line in silent.splitlines()]
+    return script + b"".join(event(TICK, bit) for bit in sout[-ticks - 1:-1])
 
 
 def random_script(work):
@@ -130,6 +138,10 @@ def main():
             ("step: host words, 8 places, 512 words in TX", 100, "step", steady(forwards(8, 64), WORD, 0xFFFF)),
             ("step: clock readings, queue and TX empty", 100, "step", steady(b"", CLOCK, 7)),
             ("step: clock readings, 8 places, 512 words in TX", 100, "step", steady(forwards(8, 64), CLOCK, 7)),
+            ("step: forwards of 512 words, POR up", 100, "step", (POWER_UP + forwards(1, 512)) * 42),
+            ("step: eight commands of 64 words, then ticks, read back", 200, "step", echoed(FULL, 9000)),
+            ("CRC of a word, table of 16", 200, "crc", forwards(42, 512)),
+            ("CRC of a word, table of 256", 200, "wide", forwards(42, 512)),
         ]
         for workload in workloads:
             measure(work, plain, *workload)

@@ -1,17 +1,18 @@
 /*
  * plain.c - the plain C program that the bridge's speed is measured beside.
  *
- *   plain ROUNDS step|drain < script.cwb
+ *   plain ROUNDS step|drain|crc|wide < script.cwb
  *
  * The rules are those of ../model/bridge_model.c, which changes its state in place. Added here: the record
  * rules of docs/RECORD-RULES.md, tested before every event and once before a drain, as the bridge does, and a
- * table for the CRC. Prints what the bridge's own program prints (crates/speed): how much was done, and a sum
- * of all answers.
+ * table for the CRC, of 256 entries: what is fastest here, though a controller has sixteen since 02 item 5. Prints
+ * what the bridge's own program prints (crates/speed): how much was done, and a sum of all answers. For `crc` and
+ * `wide` that is the CRC of the script's bytes as words, by sixteen entries and by 256.
  */
 #include <stdint.h>
 #include <stdlib.h>
 
-/* The CRC of each byte, for crc_step. */
+/* The CRC of each byte, for crc_step; the first sixteen are those of each nibble, for crc_by_nibbles. */
 static uint16_t crc_of[256];
 
 static void make_table(void)
@@ -32,6 +33,13 @@ static uint16_t crc_byte(uint16_t crc, unsigned byte)
 static uint16_t crc_step(uint16_t crc, uint16_t word)
 {
     return crc_byte(crc_byte(crc, word >> 8), word & 0xFF);
+}
+
+static uint16_t crc_by_nibbles(uint16_t crc, uint16_t word)
+{
+    for (int shift = 12; shift >= 0; shift -= 4)
+        crc = (uint16_t)(crc << 4 ^ crc_of[crc >> 12 ^ (word >> shift & 0xF)]);
+    return crc;
 }
 
 #define OWN_CRC_STEP
@@ -248,6 +256,20 @@ static uint32_t mixed(uint32_t sum, uint32_t said)
     return sum * 31u + said;
 }
 
+static void crc_rounds(const unsigned char *records, size_t n, long rounds, bool wide)
+{
+    unsigned long long done = 0;
+    uint16_t crc = 0xFFFF;
+    while (rounds-- > 0) {
+        for (size_t i = 0; i + 2 <= n; i += 2) {
+            uint16_t word = (uint16_t)(records[i] << 8 | records[i + 1]);
+            crc = wide ? crc_step(crc, word) : crc_by_nibbles(crc, word);
+        }
+        done += n / 2;
+    }
+    printf("%llu done, sum %08x\n", done, (unsigned)crc);
+}
+
 int main(int argc, char **argv)
 {
     static struct bridge b;
@@ -255,13 +277,17 @@ int main(int argc, char **argv)
     unsigned long long done = 0;
     uint32_t sum = 0;
     if (argc != 3 || !good_head(stdin)) {
-        fputs("use: plain ROUNDS step|drain < script.cwb\n", stderr);
+        fputs("use: plain ROUNDS step|drain|crc|wide < script.cwb\n", stderr);
         return 2;
     }
     long rounds = atol(argv[1]);
     bool drains = argv[2][0] == 'd';
     size_t n = fread(records, 1, sizeof records, stdin);
     make_table();
+    if (argv[2][0] == 'c' || argv[2][0] == 'w') {
+        crc_rounds(records, n, rounds, argv[2][0] == 'w');
+        return 0;
+    }
     power_up(&b, true);
     while (rounds-- > 0) {
         for (size_t i = 0; i + 3 <= n; i += 3) {

@@ -1,4 +1,6 @@
 mod Xor
-mod Linear
+pub mod Linear
 mod Steps
 pub mod Laws
+pub mod Pieces
+mod Nibbles

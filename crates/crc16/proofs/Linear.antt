@@ -1,17 +1,22 @@
--- A shift of an xor is the xor of the shifts, so the high byte's steps may come from a table. Assumes nothing.
-use mathlib.Core.Path.{_≡_, refl, sym, ap, ap₂, _∙_}
+-- A shift of an xor is the xor of the shifts, so the steps of the bits at the top may come from a table. Assumes nothing.
+use mathlib.Core.Path.{_≡_, refl, sym, ap, ap₂, _∙_, subst}
 use Prim.Native.Nat.{ℕ, zero, suc, _+_, _*_, _/_, _%_, _^_, _≤_, _<_}
-use native.Mathlib.Nat.{add-zero, pow-succ', mul-assoc, le-mul-of-pos-right}
-use lib.Pow.{pow-pos}
+use native.Mathlib.Nat.{add-zero, add-comm, pow-succ', mul-assoc, mod-lt, div-add-mod', mul-mod-left, le-mul-of-pos-right}
+use lib.Pow.{pow-pos, shl-lt, shl-shr}
 use native.Mathlib.Omega.{arith}
 use lib.Dec.{lit<}
-use lib.Bits.{bitXor, xor-shr, xor-mod, xor-lt, xor-block, xor-shifted, xor-zero-r}
+use lib.Bits.{bitXor, xor-shr, xor-mod, xor-lt, xor-block, xor-shifted, xor-comm, xor-zero-r}
 use Rattle.crc16.specs.Crc.{polynomial, shift, shifts}
 use Rattle.crc16.proofs.Xor.{digit, xor-assoc, xor-four}
 
 pub shift-lt : (c : ℕ) → c < 65536 → shift c < 65536
 unfolding shift
 shift-lt c h = xor-lt 16 (c * 2 % 65536) (c / 32768 * polynomial) (omega arith) (omega arith)
+
+pub shifts-lt : (n c : ℕ) → c < 65536 → shifts n c < 65536
+unfolding shifts
+shifts-lt zero c h = h
+shifts-lt (suc n) c h = shifts-lt n (shift c) (shift-lt c h)
 
 -- the polynomial, once, twice or never
 poly : (x : ℕ) → x < 2 → (y : ℕ) → y < 2 → bitXor x y * polynomial ≡ bitXor (x * polynomial) (y * polynomial)
@@ -55,7 +60,7 @@ rest-up c v u hc hv hu =
     ∙ ap shift (xor-assoc c (v * 32768) u ∙ ap (λ (m : ℕ). bitXor c m) (xor-shifted v 15 u hu))
 
 -- with the top n bits clear, n shifts move up
-lows : (n b : ℕ) → b * 2 ^ n < 65536 → shifts n b ≡ b * 2 ^ n
+pub lows : (n b : ℕ) → b * 2 ^ n < 65536 → shifts n b ≡ b * 2 ^ n
 unfolding shifts
 lows zero b h = omega arith
 lows (suc n) b h =
@@ -63,23 +68,26 @@ lows (suc n) b h =
     let l : b * 2 ≤ b * 2 * 2 ^ n = le-mul-of-pos-right (b * 2) (pow-pos n) in
     ap (λ (m : ℕ). shifts n m) (clear b (omega arith)) ∙ lows n (b * 2) (omega arith) ∙ sym e
 
--- eight shifts of a word: the high byte's eight shifts, and the low byte moved up
-eight : (x : ℕ) → x < 65536 → shifts 8 x ≡ bitXor (shifts 8 (x / 256 * 256)) (x % 256 * 256)
-eight x h =
-    let l : x % 256 < 256 = omega arith in
-    let e : x / 256 * 256 + x % 256 ≡ x = omega arith in
-    ap (λ (m : ℕ). shifts 8 m) (sym (xor-shifted (x / 256) 8 (x % 256) l ∙ e))
-    ∙ linears 8 (x / 256 * 256) (x % 256) (omega arith) (omega arith)
-    ∙ ap (λ (m : ℕ). bitXor (shifts 8 (x / 256 * 256)) m) (lows 8 (x % 256) (omega arith))
+-- n shifts of a word, n + k being its length: the n bits at its top shifted, and the others moved up
+module _ (n k : ℕ) (e : n + k ≡ 16) where
+  in-word : {a : ℕ} → a < 2 ^ k → a * 2 ^ n < 65536
+  in-word {a} h = subst (λ (j : ℕ). a * 2 ^ n < 2 ^ j) (add-comm k n ∙ e) (shl-lt k n h)
 
--- a byte into the CRC, by the table's step e
-pub to-byte : (c b e : ℕ) → c < 65536 → b < 256 → e ≡ shifts 8 (bitXor (c / 256) b * 256)
-    → bitXor e (c % 256 * 256) ≡ shifts 8 (bitXor c (b * 256))
-to-byte c b e hc hb h =
-    let d : b * 256 / 256 ≡ b = omega arith in
-    let m : b * 256 % 256 ≡ 0 = omega arith in
-    ap (λ (m : ℕ). bitXor m (c % 256 * 256)) h
-    ∙ sym (eight (bitXor c (b * 256)) (xor-lt 16 c (b * 256) hc (omega arith))
-    ∙ ap₂ (λ (p q : ℕ). bitXor (shifts 8 (p * 256)) (q * 256))
-    (xor-shr c (b * 256) 8 ∙ ap (λ (q : ℕ). bitXor (c / 256) q) d)
-    (xor-mod c (b * 256) 8 ∙ ap (λ (q : ℕ). bitXor (c % 256) q) m ∙ xor-zero-r (c % 256)))
+  split : (x : ℕ) → x < 65536 → shifts n x ≡ bitXor (shifts n (x / 2 ^ k * 2 ^ k)) (x % 2 ^ k * 2 ^ n)
+  split x h =
+      let l : x % 2 ^ k < 2 ^ k = mod-lt x (pow-pos k) in
+      let d : x / 2 ^ k * 2 ^ k + x % 2 ^ k ≡ x = div-add-mod' x (2 ^ k) in
+      ap (λ (m : ℕ). shifts n m) (sym (xor-shifted (x / 2 ^ k) k (x % 2 ^ k) l ∙ d))
+      ∙ linears n (x / 2 ^ k * 2 ^ k) (x % 2 ^ k) (omega arith) (omega arith)
+      ∙ ap (λ (m : ℕ). bitXor (shifts n (x / 2 ^ k * 2 ^ k)) m) (lows n (x % 2 ^ k) (in-word l))
+
+  -- n bits into the CRC, by the table's entry x
+  pub to-piece : (c p x : ℕ) → c < 65536 → p < 2 ^ n → x ≡ shifts n (bitXor (c / 2 ^ k) p * 2 ^ k)
+      → bitXor (c % 2 ^ k * 2 ^ n) x ≡ shifts n (bitXor c (p * 2 ^ k))
+  to-piece c p x hc hp h =
+      let up : p * 2 ^ k < 65536 = subst (λ (j : ℕ). p * 2 ^ k < 2 ^ j) e (shl-lt n k hp) in
+      xor-comm (c % 2 ^ k * 2 ^ n) x ∙ ap (λ (m : ℕ). bitXor m (c % 2 ^ k * 2 ^ n)) h
+      ∙ sym (split (bitXor c (p * 2 ^ k)) (xor-lt 16 c (p * 2 ^ k) hc up)
+      ∙ ap₂ (λ (t u : ℕ). bitXor (shifts n (t * 2 ^ k)) (u * 2 ^ n))
+      (xor-shr c (p * 2 ^ k) k ∙ ap (λ (q : ℕ). bitXor (c / 2 ^ k) q) (shl-shr p k))
+      (xor-mod c (p * 2 ^ k) k ∙ ap (λ (q : ℕ). bitXor (c % 2 ^ k) q) (mul-mod-left p (2 ^ k)) ∙ xor-zero-r (c % 2 ^ k)))

@@ -1,6 +1,6 @@
 // The bridge's speed: the events of a script, round after round, one event a call (`step`) or with a drain at the end of each round
-// (`drain`). Prints how much was done and a sum of all answers, which the plain C program of the same rules must print too
-// (tests/speed/measure.py).
+// (`drain`); and the CRC's, over the script's bytes as words, by the table of sixteen entries (`crc`) or of 256 (`wide`). Prints how much was done and a
+// sum of all answers, which the plain C program of the same rules must print too (tests/speed/measure.py).
 use events::Event;
 use libc::STDIN_FILENO;
 use libc::STDOUT_FILENO;
@@ -101,6 +101,41 @@ fn rounds(records: &[u8], many: u32, drains: bool) -> Ran {
     ran
 }
 
+fn crc_after(crc: u16, word: u16, wide: bool) -> u16 {
+    if wide {
+        return crc16_wide::crc_word(crc, word);
+    }
+    crc16::crc_word(crc, word)
+}
+
+fn crc_round(start: u16, records: &[u8], wide: bool) -> u16 {
+    let mut crc = start;
+    let mut i: usize = 0;
+    while i + 2 <= records.len() {
+        let next = i + 2;
+        crc = crc_after(crc, script::value(records[i], records[i + 1]), wide);
+        i = next;
+    }
+    crc
+}
+
+// The CRC of the records as words, round after round.
+fn crc_rounds(records: &[u8], many: u32, wide: bool) -> Ran {
+    let mut crc = crc16::START;
+    let mut done: u64 = 0;
+    let mut left = many;
+    while left > 0 {
+        crc = crc_round(crc, records, wide);
+        done = std::num::wrapping_add_u64(done, (records.len() / 2) as u64);
+        left = left - 1;
+    }
+    Ran {
+        bridge: Bridge::good(),
+        done: done,
+        sum: crc as u32,
+    }
+}
+
 // The digit's value, or 10 where it is none.
 fn digit(byte: u8) -> u32
     ensures { λ r. ⌜ r ≤ 10 ⌝ }
@@ -139,14 +174,23 @@ fn print(ran: Ran) {
     io::write_all(STDOUT_FILENO, b"\n");
 }
 
-fn is_drain(mode: &[u8]) -> bool {
+// The mode's first letter, of `step`, `drain`, `crc` and `wide`; anything else is `step`.
+fn letter(mode: &[u8]) -> u8 {
     if mode.len() == 0 {
-        return false;
+        return 0;
     }
-    mode[0] == 0x64
+    mode[0]
 }
 
-// ROUNDS MODE: how often, and whether each round ends in a drain.
+fn run(records: &[u8], many: u32, mode: u8) -> Ran {
+    match mode {
+        0x63 => crc_rounds(records, many, false),
+        0x77 => crc_rounds(records, many, true),
+        _ => rounds(records, many, mode == 0x64),
+    }
+}
+
+// ROUNDS MODE: how often, and what.
 fn main() {
     let mut records = io::large_buffer();
     let mut head = [0u8; 5];
@@ -156,6 +200,6 @@ fn main() {
     let length = os::arg(1, &mut word);
     let many = number(&word[..length]);
     let mode_length = os::arg(2, &mut word);
-    let drains = is_drain(&word[..mode_length]);
-    print(rounds(&records[..n], many, drains));
+    let mode = letter(&word[..mode_length]);
+    print(run(&records[..n], many, mode));
 }

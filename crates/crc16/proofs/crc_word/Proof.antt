@@ -1,6 +1,6 @@
 -- `crc_word` meets its contract: a word is its two bytes, the high byte first.
 use borrow.Author.Needs.{needs}
-use Rattle.crc16.proofs.Laws.{to-word}
+use Rattle.crc16.proofs.Nibbles.{to-word}
 use Rattle.crc16.proofs.crc_word.Statement.{statement}
 use Rattle.crc16.proofs.crc_word.Tie as tie
 

@@ -1,12 +1,14 @@
--- `entry` meets its contract: the table's rule.
-use Prim.Native.Nat.{_<_}
+-- `entry` meets its contract: each answer is the table's.
 use borrow.Author.Needs.{needs}
-use Rattle.base.specs.Pick.{pick}
-use Rattle.crc16.specs.Crc.{shift, shifts}
-use Rattle.crc16.proofs.Steps.{step-at}
+use Rattle.crc16.proofs.Steps.{step-at, last}
 use Rattle.crc16.proofs.entry.Statement.{statement}
 use Rattle.crc16.proofs.entry.Tie as tie
 
 pub entry-spec : {M : Type 1} → statement M
-unfolding pick shift shifts
-entry-spec = tie.close (tie.spec (λ c. search needs) (λ c. search needs) (λ c. let h : c .args .k < 256 = search needs in rw step-at))
+entry-spec =
+    tie.close
+    (tie.spec (λ c. search (needs, step-at)) (λ c. search (needs, step-at)) (λ c. search (needs, step-at))
+    (λ c. search (needs, step-at)) (λ c. search (needs, step-at)) (λ c. search (needs, step-at)) (λ c. search (needs, step-at))
+    (λ c. search (needs, step-at)) (λ c. search (needs, step-at)) (λ c. search (needs, step-at)) (λ c. search (needs, step-at))
+    (λ c. search (needs, step-at)) (λ c. search (needs, step-at)) (λ c. search (needs, step-at)) (λ c. search (needs, step-at))
+    (λ c. search (needs, last)))

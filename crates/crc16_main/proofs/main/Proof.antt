@@ -25,6 +25,12 @@ block-requires c κs = search needs
 cast-line : tie.Need-cast-line Inv-loop μ-loop Inv-loop2 μ-loop2
 cast-line c = search needs
 
+block-requires-2 : tie.Need-block-requires-2 Inv-loop μ-loop Inv-loop2 μ-loop2
+block-requires-2 c κs = search needs
+
+cast-line-2 : tie.Need-cast-line-2 Inv-loop μ-loop Inv-loop2 μ-loop2
+cast-line-2 c = search needs
+
 line-requires : tie.Need-line-requires Inv-loop μ-loop Inv-loop2 μ-loop2
 line-requires c κs = search needs
 
@@ -43,8 +49,14 @@ loop2-holds c = search needs
 list-requires : tie.Need-list-requires Inv-loop μ-loop Inv-loop2 μ-loop2
 list-requires c κs = search needs
 
-cast-line-2 : tie.Need-cast-line-2 Inv-loop μ-loop Inv-loop2 μ-loop2
-cast-line-2 c = search needs
+cast-line-3 : tie.Need-cast-line-3 Inv-loop μ-loop Inv-loop2 μ-loop2
+cast-line-3 c = search needs
+
+list-requires-2 : tie.Need-list-requires-2 Inv-loop μ-loop Inv-loop2 μ-loop2
+list-requires-2 c κs = search needs
+
+cast-line-4 : tie.Need-cast-line-4 Inv-loop μ-loop Inv-loop2 μ-loop2
+cast-line-4 c = search needs
 
 line-requires-2 : tie.Need-line-requires-2 Inv-loop μ-loop Inv-loop2 μ-loop2
 line-requires-2 c κs = search needs
@@ -64,5 +76,27 @@ returns c = search needs
 pub main-spec : {M : Type 1} → statement M
 main-spec =
     tie.close
-    (tie.spec Inv-loop μ-loop Inv-loop2 μ-loop2 loop-holds block-requires cast-line line-requires add-high loop-less loop-again
-    loop2-holds list-requires cast-line-2 line-requires-2 add-n loop2-less loop2-again returns)
+    (tie.spec
+    Inv-loop
+    μ-loop
+    Inv-loop2
+    μ-loop2
+    loop-holds
+    block-requires
+    cast-line
+    block-requires-2
+    cast-line-2
+    line-requires
+    add-high
+    loop-less
+    loop-again
+    loop2-holds
+    list-requires
+    cast-line-3
+    list-requires-2
+    cast-line-4
+    line-requires-2
+    add-n
+    loop2-less
+    loop2-again
+    returns)

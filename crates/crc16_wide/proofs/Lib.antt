@@ -1,0 +1,3 @@
+mod Steps
+mod Bytes
+pub mod Same
