@@ -1,24 +1,33 @@
 #!/usr/bin/env python3
-"""The CRC's large table stays with the bench (02 item 5): no library crate that a controller can link reaches `crc16_wide`, and no other program than
-those named here does.
+"""The CRC's large table stays with the bench (02 item 5): no library crate depends on `crc16_wide`, by itself or through others, none names it, and none
+has its entries in its text; and of the programs only those named here depend on it.
 
-bench_alone.py    `bench_alone: N library crates without the large table`, or what reaches it and exit status 1
+bench_alone.py    `bench_alone: N library crates without the large table`, or what is wrong and exit status 1
 
-Read are crates.txt, whose dependencies are all that the compiler is given of a crate, and the text of every crate. The test is first tried on lists that
-are wrong.
+Read are crates.txt, whose lines are all that the compiler is given of a crate, and the text of every crate. The test is first tried on wrong lists.
+That the compiled library for C is without the table is tests/c_library.py's.
 """
 import pathlib
+import re
 import sys
 
 ROOT = pathlib.Path(__file__).resolve().parent.parent
 WIDE = "crc16_wide"
 BENCH = {"crc16_main", "speed"}
+SMALL, LARGE = 16, 256  # entries
+IN_A_ROW = 8  # entries by which the large table is known
 
 
 def dependencies(text):
     """Of each crate, what its line names."""
-    lines = (line.partition(":") for line in text.splitlines() if line.strip() and not line.startswith("#"))
-    return {name.strip(): rest.split() for name, _, rest in lines}
+    below = {}
+    for number, line in enumerate(text.splitlines(), 1):
+        if line.strip() and not line.startswith("#"):
+            name, colon, rest = line.partition(":")
+            if not colon or name.strip() in below:
+                raise ValueError(f"crates.txt:{number}: {'listed twice' if colon else 'no colon behind the name'}: {name.strip()}")
+            below[name.strip()] = rest.split()
+    return below
 
 
 def reached(below, name):
@@ -31,37 +40,63 @@ def reached(below, name):
     return found
 
 
-def wrong(below, libraries, naming):
-    """What is wrong with these dependencies, libraries, and crates in whose text the large table's crate is named."""
-    if WIDE not in below:
-        yield f"crates.txt has no {WIDE}: this test looks for nothing"
+def numbers(text):
+    return [int(digits, 16) for digits in re.findall(r"\b0x([0-9A-Fa-f]+)\b", text)]
+
+
+def has_table(text, table):
+    """Entries that only the large table has stand in the text, so many in a row."""
+    row, found = table[SMALL:SMALL + IN_A_ROW], numbers(text)
+    return any(found[at:at + IN_A_ROW] == row for at in range(len(found)))
+
+
+def wrong(below, libraries, texts):
+    """What is wrong with these dependencies, libraries and texts."""
+    table = numbers(texts.get(WIDE, ""))
+    if len(table) != LARGE:
+        yield f"{WIDE}: {len(table)} entries in its text, not {LARGE}: this test would look for nothing"
+    used = {crate for crates in below.values() for crate in crates}
     for name in below:
         uses = WIDE in reached(below, name)
-        if name in libraries and name != WIDE and (uses or name in naming):
-            yield f"{name}: a library crate {'depends on' if uses else 'names'} {WIDE}"
-        elif name not in libraries and uses != (name in BENCH):
-            yield f"{name}: a program {'depends on' if uses else 'no longer depends on'} {WIDE}"
+        if name not in libraries | used:
+            if uses != (name in BENCH):
+                yield f"{name}: a program {'depends on' if uses else 'no longer depends on'} {WIDE}"
+        elif name != WIDE:
+            if uses or WIDE in texts[name]:
+                yield f"{name}: a library crate {'depends on' if uses else 'names'} {WIDE}"
+            if has_table(texts[name], table):
+                yield f"{name}: a library crate has the large table in its text"
 
 
 def tried():
     """The test tells each wrong list, and takes the right one."""
+    entries = " ".join(f"0x{entry:04X}" for entry in range(LARGE))
     right = {"crc16": [], WIDE: ["crc16"], "state": ["crc16"], "bridge": ["state"], **{name: [WIDE] for name in BENCH}}
-    libraries = {"crc16", WIDE, "state", "bridge"}
-    cases = [({}, set(), False), ({"bridge": [WIDE]}, set(), True), ({"state": [WIDE]}, set(), True), ({"bridge": ["between"], "between": [WIDE]}, set(), True),
-             ({"board_main": [WIDE]}, set(), True), ({"speed": []}, set(), True), ({}, {"state"}, True)]
-    for other, naming, told in cases:
-        if bool(list(wrong({**right, **other}, libraries, naming))) != told:
-            sys.exit(f"bench_alone: the test itself is wrong on {other or naming}")
+    cases = [({}, {}, False), ({"bridge": [WIDE]}, {}, True), ({"state": [WIDE]}, {}, True), ({"bridge": ["between"], "between": [WIDE]}, {}, True),
+             ({"board_main": [WIDE]}, {}, True), ({"speed": []}, {}, True), ({}, {"state": WIDE}, True), ({}, {"crc16": entries}, True), ({}, {WIDE: ""}, True)]
+    for other, text, told in cases:
+        below = {**right, **other}
+        texts = {**dict.fromkeys(below, ""), WIDE: entries, **text}
+        if bool(list(wrong(below, {"crc16", WIDE, "bridge"}, texts))) != told:
+            sys.exit(f"bench_alone: the test itself is wrong on {other or text}")
+
+
+def text_of(folder):
+    files = sorted(file for part in ("src", "specs", "proofs") for file in (folder / part).rglob("*") if file.suffix in (".rt", ".antt"))
+    return "\n".join(file.read_text() for file in files)
 
 
 def main():
+    if len(sys.argv) > 1:
+        sys.exit(f"bench_alone: it takes no argument, and was given {' '.join(sys.argv[1:])!r}")
     tried()
-    below = dependencies((ROOT / "crates.txt").read_text())
-    crates = {name: ROOT / "crates" / name for name in below}
-    libraries = {name for name, folder in crates.items() if (folder / "src/lib.rt").is_file()}
-    texts = {name: [file for part in ("src", "specs", "proofs") for file in (folder / part).rglob("*.*") if file.suffix in (".rt", ".antt")] for name, folder in crates.items()}
-    naming = {name for name, files in texts.items() if any(WIDE in file.read_text() for file in files)}
-    faults = list(wrong(below, libraries, naming))
+    try:
+        below = dependencies((ROOT / "crates.txt").read_text())
+        texts = {name: text_of(ROOT / "crates" / name) for name in below}
+    except (OSError, ValueError) as error:
+        sys.exit(f"bench_alone: {error}")
+    libraries = {name for name in below if (ROOT / "crates" / name / "src/lib.rt").is_file()}
+    faults = list(wrong(below, libraries, texts))
     if faults:
         print(*faults, sep="\n")
         sys.exit(f"bench_alone: the large table is not the bench's alone ({len(faults)})")

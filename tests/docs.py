@@ -4,7 +4,7 @@
 docs.py    `docs: N names hold`, or the names that do not and exit status 1
 
 Looked at, between backquotes: `Module.name` (a definition or lemma of specs/ or proofs/), `crate::function`, paths of the repository, and in
-docs/PROMISES.md the names of edits after `crate/must-fail`.
+docs/PROMISES.md the names of edits after `crate/must-fail`; without backquotes too, pages of docs/.
 """
 import pathlib
 import re
@@ -52,6 +52,7 @@ def wrong(text, known, calls):
             yield name
         elif name.startswith(PLACES) and "NAME" not in name and not (ROOT / name.split()[0]).exists():
             yield name
+    yield from (page for page in re.findall(r"\bdocs/[\w/-]+\.md\b", text) if not (ROOT / page).exists())
     yield from (edit.name for edit in edits(text) if not edit.exists())
 
 

@@ -5,8 +5,8 @@ measure.py                   needs the proved program (`rt check speed`), gcc, a
 measure.py --instructions    counts instructions instead, with valgrind: the same whatever else the machine does; one event's are those of a
                              second round over its events
 
-Each workload runs in both programs by turns, nine times; the least user time of each counts. Both print how much was done and a sum of all
-answers; they must print the same. Nanoseconds are for one event, for one tick of a drain, or for one word of a CRC. What the CRC's table costs by
+Each workload runs in both programs by turns, nine times; the least processor time of each counts, user's and system's together, since the kernel
+measures only their sum. Both print how much was done and a sum of all answers; they must print the same. Nanoseconds are for one event, for one tick of a drain, or for one word of a CRC. What the CRC's table costs by
 itself is counted by tables.py.
 """
 import os
@@ -54,6 +54,15 @@ def steady(before, kind, value):
     return POWER_UP + before + event(kind, value) * (ROUND - len(POWER_UP + before) // 3)
 
 
+def asked_for_help(words, text):
+    """Ends the run: the text where it was asked for, else what is wrong."""
+    if words in (["--help"], ["-h"]):
+        print(text)
+        sys.exit(0)
+    print(f"speed: {' '.join(words)!r} is no argument here; --help says what is", file=sys.stderr)
+    sys.exit(2)
+
+
 def echoed(script, ticks):
     """The script, and so many ticks whose SIN bits are the SOUT bits of the tick before: what was sent is read back. SOUT by the independent program."""
     silent = subprocess.run([os.environ["BRIDGE_MODEL"], "/dev/stdin"], input=HEAD + script + event(TICK, 1) * ticks, capture_output=True, check=True).stdout
@@ -66,10 +75,15 @@ def random_script(work):
     return made[len(HEAD):]
 
 
+def spent():
+    used = resource.getrusage(resource.RUSAGE_CHILDREN)
+    return used.ru_utime + used.ru_stime
+
+
 def timed(program, rounds, mode, script):
-    before = resource.getrusage(resource.RUSAGE_CHILDREN).ru_utime
+    before = spent()
     said = subprocess.run([program, str(rounds), mode], stdin=open(script, "rb"), capture_output=True, check=True, text=True).stdout
-    return resource.getrusage(resource.RUSAGE_CHILDREN).ru_utime - before, said
+    return spent() - before, said
 
 
 def measured(work, plain, name, rounds, mode, records):
@@ -110,7 +124,7 @@ def counted(work, plain, name, rounds, mode, records):
 def main():
     measure, unit = (counted, "instr") if sys.argv[1:] == ["--instructions"] else (measured, "ns")
     if len(sys.argv) > 1 and measure is measured:
-        sys.exit(__doc__)
+        asked_for_help(sys.argv[1:], __doc__)
     if measure is counted and not shutil.which("valgrind"):
         sys.exit("speed: valgrind is not found")
     if not OURS.exists():

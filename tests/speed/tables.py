@@ -1,14 +1,15 @@
 #!/usr/bin/env python3
 """What the CRC's table costs (02 item 5): the code with the table of sixteen entries, and with that of 256 in its place, in one run.
 
-tables.py    needs the proved program (`rt check speed`), gcc, valgrind and an x86-64 machine; about three minutes
+tables.py    needs the proved program (`rt check speed`), gcc, valgrind and an x86-64 machine; about five minutes
 
 For the second the calls of `crc16` in a copy of the crates are made calls of `crc16_wide`, whose contract is the same. Both are compiled by the kit without
 their proof; the first must have the proved program's code, function by function. Printed are
 - bytes of code and of constants: of a program that hands events to `step` and drains, and does nothing else, which is what a controller takes; and of
   the library for C (`rt staticlib icelichen_frames`), which is proved anew with either table;
-- instructions (valgrind) and nanoseconds (the least of nine, by turns, user time) of a forward's data word, of a word on the line drained, and of a word on
-  the line with one tick a call, sent and read back; each beside the plain C program (plain.c).
+- instructions (valgrind) and nanoseconds (the least of nine, by turns, processor time) of a forward's data word, of a word on the line drained, and of a
+  word on the line with one tick a call, sent and read back; each beside the plain C program (plain.c). A word's cost is that of many words less that of
+  the rest of the script by itself.
 """
 import os
 import pathlib
@@ -19,13 +20,14 @@ import subprocess
 import sys
 import tempfile
 
-from measure import FULL, HEAD, POWER_UP, TIMES, echoed, forwards, instructions, timed
+from measure import FULL, HEAD, POWER_UP, TIMES, asked_for_help, echoed, forwards, instructions, timed
 
 HERE = pathlib.Path(__file__).resolve().parent
 ROOT = HERE.parents[1]
 sys.path[:0] = [str(ROOT / "tests/mutation"), str(ROOT / "tests/coverage")]
 from controller import LINKED  # noqa: E402
 from outside import kit, linked  # noqa: E402
+from pair import built_model  # noqa: E402
 
 WORDS = 512  # of the commands on the line, and of the longest forward
 TICKS = 9000  # more than their bits
@@ -73,7 +75,8 @@ def shadow_kit(place):
     linked(kit() / tools / "bin", shadow / tools / "bin", "clang")
     real = kit() / tools / "bin"
     (shadow / tools / "bin/ld.lld").unlink()
-    kept = {"clang": ("module.o", "object", f'rm -f "{place}/fast"; case " $* " in *" -O3 "*) : > "{place}/fast" ;; esac\n'), "ld.lld": ("program", "program", "")}
+    mark = f'rm -f "{place}/fast"\ncase " $* " in *" -O3 "*) : > "{place}/fast" ;; esac\n'
+    kept = {"clang": ("module.o", "object", mark), "ld.lld": ("program", "program", "")}
     for name, (made, copy, first) in kept.items():
         script = f'#!/bin/sh\n{first}"{real}/{name}" "$@" || exit\n[ ! -e "{place}/fast" ] || /bin/cp {made} "{place}/{copy}"\n'
         (shadow / tools / "bin" / name).write_text(script)
@@ -107,7 +110,8 @@ def built(place, wide):
             sys.exit(f"tables: {name} is not compiled\n" + (ran.stdout + ran.stderr)[-1000:])
         (place / "object").rename(place / f"{name}.o")
     shutil.rmtree(place / "crates/controller")
-    (place / "crates.txt").write_text("".join(line for line in (place / "crates.txt").read_text().splitlines(True) if not line.startswith("controller:")))
+    lines = (place / "crates.txt").read_text().splitlines(True)
+    (place / "crates.txt").write_text("".join(line for line in lines if not line.startswith("controller:")))
     told(f"proving the library for C with the table of {256 if wide else 16}")
     ran = subprocess.run(["rt", "staticlib", LIBRARY], cwd=place, capture_output=True, text=True)
     if ran.returncode:
@@ -135,41 +139,54 @@ def bytes_of(file):
 
 
 def workloads():
-    """(name, mode, script, the part of it that is taken off, words): what one word costs is the difference."""
-    yield "a forward's data word", "step", POWER_UP + forwards(1, WORDS), POWER_UP + forwards(1, 1), WORDS - 1
-    yield "a word on the line, drained", "drain", FULL, None, WORDS
-    yield "a word on the line, one tick a call, read back", "step", echoed(FULL, TICKS), FULL, WORDS
+    """(name, mode, script, its rest without the words that are measured, how many these are, rounds for a time). The rest goes one event a call."""
+    frames = 42  # of 512 words, in a round
+    yield "a forward's data word", "step", (POWER_UP + forwards(1, WORDS)) * frames, (POWER_UP + forwards(1, 1)) * frames, frames * (WORDS - 1), 400
+    yield "a word on the line, drained", "drain", FULL, FULL, WORDS, 2000
+    yield "a word on the line, one tick a call, read back", "step", echoed(FULL, TICKS), FULL, WORDS, 1000
 
 
-def difference(work, cost, mode, script, less, words):
-    """The cost of a word: that of the script, less that of its part. A drain's part is its host words, by `step`."""
-    file, part = work / "script.cwb", work / "part.cwb"
-    file.write_bytes(HEAD + script)
-    part.write_bytes(HEAD + (less or script))
-    return (cost(mode, file) - cost("step", part)) / words
+def counts(program, work, mode, words):
+    """Instructions of a word in a program: of a second round."""
+    rounds = [instructions(program, many, how, work / file)[0] for how, file in ((mode, "script"), ("step", "rest")) for many in (1, 2)]
+    return (rounds[1] - rounds[0] - rounds[3] + rounds[2]) / words
 
 
-def counts(program):
-    """What a round of a script costs in instructions."""
-    return lambda mode, file: instructions(program, 2, mode, file)[0] - instructions(program, 1, mode, file)[0]
-
-
-def times(programs, work, mode, script, less, words):
-    """Nanoseconds of a word in each program, the least of nine of both parts."""
-    rounds, best = 400, {}
-    (work / "script.cwb").write_bytes(HEAD + script)
-    (work / "part.cwb").write_bytes(HEAD + (less or script))
+def times(programs, work, mode, words, rounds):
+    """Nanoseconds of a word in each program, the least of nine of script and rest."""
+    best = {}
     for _ in range(TIMES):
         for program in programs:
-            for how, file in ((mode, "script.cwb"), ("step", "part.cwb")):
+            for how, file in ((mode, "script"), ("step", "rest")):
                 seconds = timed(program, rounds, how, work / file)[0]
                 best[program, file] = min(best.get((program, file), 1e9), seconds)
-    return [1e9 * (best[program, "script.cwb"] - best[program, "part.cwb"]) / rounds / words for program in programs]
+    found = [1e9 * (best[program, "script"] - best[program, "rest"]) / rounds / words for program in programs]
+    if min(found) <= 0 or min(best[program, "script"] for program in programs) < 0.05:
+        sys.exit("tables: the times are too short to be told apart on this machine")
+    return found
+
+
+def print_bytes(large, small):
+    print(f"{'bytes':50} {'':>8} {'256':>8} {'16':>8} {'saved':>8}")
+    for name, file in (("a program that steps and drains", "controller.o"), ("the library for C", f"target/staticlib/lib{LIBRARY}.a")):
+        for what, before, after in zip(("code", "constants"), bytes_of(large / file), bytes_of(small / file)):
+            print(f"{name:50} {what:>9} {before:>7} {after:>8} {before - after:>8}", flush=True)
+
+
+def print_words(work, programs):
+    print(f"{'of a word':50} {'':>8} {'256':>8} {'16':>8} {'C':>8}")
+    for name, mode, script, rest, words, rounds in workloads():
+        told(name)
+        (work / "script").write_bytes(HEAD + script)
+        (work / "rest").write_bytes(HEAD + rest)
+        counted = [counts(program, work, mode, words) for program in programs]
+        print(f"{name:50} {'instr':>8} " + " ".join(f"{number:8.0f}" for number in counted), flush=True)
+        print(f"{name:50} {'ns':>8} " + " ".join(f"{number:8.1f}" for number in times(programs, work, mode, words, rounds)), flush=True)
 
 
 def main():
     if len(sys.argv) > 1:
-        sys.exit(__doc__)
+        asked_for_help(sys.argv[1:], __doc__)
     missing = [tool for tool in ("rt", "gcc", "valgrind", "size", "objcopy") if not shutil.which(tool)]
     if missing or platform.machine() != "x86_64":
         sys.exit(f"tables: not found: {', '.join(missing)}" if missing else "tables: measured natively on x86-64 only")
@@ -178,26 +195,15 @@ def main():
         sys.exit("tables: target/obj/speed.o is not built: run `rt check speed`")
     with tempfile.TemporaryDirectory() as folder:
         work = pathlib.Path(folder)
-        plain, model = work / "plain", work / "bridge_model"
+        plain, large, small = work / "plain", work / "large", work / "small"
         subprocess.check_call(["gcc", "-std=c11", "-O2", "-o", plain, HERE / "plain.c"])
-        subprocess.check_call(["gcc", "-std=c11", "-O2", "-o", model, HERE.parent / "model/bridge_model.c"])
-        os.environ["BRIDGE_MODEL"] = str(model)
-        large, small = work / "large", work / "small"
+        built_model(work)
         built(large, True)
         built(small, False)
         if code(small / "speed.o") != code(proved) or sorted(listed(small / "speed.o")) != sorted(listed(proved)):
             sys.exit("tables: what was compiled here is not the proved program's code: run `rt check speed` again")
-        print(f"{'bytes':50} {'':>8} {'256':>8} {'16':>8} {'saved':>8}")
-        for name, file in (("a program that steps and drains", "controller.o"), ("the library for C", f"target/staticlib/lib{LIBRARY}.a")):
-            for what, before, after in zip(("code", "constants"), bytes_of(large / file), bytes_of(small / file)):
-                print(f"{name:50} {what:>9} {before:>7} {after:>8} {before - after:>8}")
-        programs = large / "program", small / "program", plain
-        print(f"{'of a word':50} {'':>8} {'256':>8} {'16':>8} {'C':>8}")
-        for name, *workload in workloads():
-            told(name)
-            found = [difference(work, counts(program), *workload) for program in programs]
-            print(f"{name:50} {'instr':>8} " + " ".join(f"{number:8.0f}" for number in found), flush=True)
-            print(f"{name:50} {'ns':>8} " + " ".join(f"{number:8.1f}" for number in times(programs, work, *workload)), flush=True)
+        print_bytes(large, small)
+        print_words(work, (large / "program", small / "program", plain))
 
 
 if __name__ == "__main__":

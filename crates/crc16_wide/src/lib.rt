@@ -1,5 +1,5 @@
-// The CRC by document 01's table of 256 entries, one lookup a byte: the contract of `crc16`, for the programs of the bench alone (02 item 5). No library
-// crate that a controller links depends on this one (tests/bench_alone.py).
+// The CRC by document 01's table of 256 entries, one lookup a byte: the contract of `crc16`, for `crc16_main` and `speed` alone (02 item 5, "the larger
+// table stays in the bench build"). No library crate depends on this one (tests/bench_alone.py).
 ghost use mathlib.Core.Path.{_≡_};
 ghost use mathlib.Core.Bool.{true};
 ghost use Rattle.crc16.specs.Crc.{crcWord, crcOf};
@@ -299,7 +299,8 @@ pub fn crc_list(words: &[u16]) -> u16
     crc
 }
 
-// Both routines give one CRC, for every CRC so far and every word: proved of the two as they are compiled (02 item 5, "shown equal on every word").
+// Both routines give one CRC, for every CRC so far and every word (02 item 5, "shown equal on every word"). What is promised is `true`; what is compared
+// stands in the body.
 pub fn same_word(crc: u16, word: u16) -> bool
     ensures { λ r. ⌜ r ≡ true ⌝ }
 {

@@ -174,7 +174,7 @@ fn print(ran: Ran) {
     io::write_all(STDOUT_FILENO, b"\n");
 }
 
-// The mode's first letter, of `step`, `drain`, `crc` and `wide`; anything else is `step`.
+// The mode's first letter.
 fn letter(mode: &[u8]) -> u8 {
     if mode.len() == 0 {
         return 0;
@@ -190,6 +190,13 @@ fn run(records: &[u8], many: u32, mode: u8) -> Ran {
     }
 }
 
+// By its letter: `step`, `drain`, `crc` or `wide`.
+fn is_mode(mode: u8) -> bool {
+    let events = (mode == 0x73) | (mode == 0x64);
+    let tables = (mode == 0x63) | (mode == 0x77);
+    events | tables
+}
+
 // ROUNDS MODE: how often, and what.
 fn main() {
     let mut records = io::large_buffer();
@@ -201,5 +208,12 @@ fn main() {
     let many = number(&word[..length]);
     let mode_length = os::arg(2, &mut word);
     let mode = letter(&word[..mode_length]);
+    if !is_mode(mode) {
+        io::write_all(
+            STDOUT_FILENO,
+            b"use: speed ROUNDS step|drain|crc|wide < script.cwb\n",
+        );
+        return;
+    }
     print(run(&records[..n], many, mode));
 }
