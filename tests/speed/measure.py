@@ -6,8 +6,8 @@ measure.py --instructions    counts instructions instead, with valgrind: the sam
                              second round over its events
 
 Each workload runs in both programs by turns, nine times; the least processor time of each counts, user's and system's together, since the kernel
-measures only their sum. Both print how much was done and a sum of all answers; they must print the same. Nanoseconds are for one event, for one tick of a drain, or for one word of a CRC. What the CRC's table costs by
-itself is counted by tables.py.
+measures only their sum. Both print how much was done and a sum of all answers; they must print the same. Nanoseconds are for one event, for one tick
+of a drain, or for one word of a CRC. What the CRC's table costs by itself is counted by tables.py.
 """
 import os
 import pathlib

@@ -5,8 +5,8 @@ tables.py    needs the proved program (`rt check speed`), gcc, valgrind and an x
 
 For the second the calls of `crc16` in a copy of the crates are made calls of `crc16_wide`, whose contract is the same. Both are compiled by the kit without
 their proof; the first must have the proved program's code, function by function. Printed are
-- bytes of code and of constants: of a program that hands events to `step` and drains, and does nothing else, which is what a controller takes; and of
-  the library for C (`rt staticlib icelichen_frames`), which is proved anew with either table;
+- bytes of code and of constants: of a program that hands events to `step` and drains, and does nothing else, which is what a controller takes, as an
+  object and linked; and of the library for C (`rt staticlib icelichen_frames`), which is proved anew with either table;
 - instructions (valgrind) and nanoseconds (the least of nine, by turns, processor time) of a forward's data word, of a word on the line drained, and of a
   word on the line with one tick a call, sent and read back; each beside the plain C program (plain.c). A word's cost is that of many words less that of
   the rest of the script by itself.
@@ -109,6 +109,7 @@ def built(place, wide):
         if ran.returncode:
             sys.exit(f"tables: {name} is not compiled\n" + (ran.stdout + ran.stderr)[-1000:])
         (place / "object").rename(place / f"{name}.o")
+        (place / "program").rename(place / name)
     shutil.rmtree(place / "crates/controller")
     lines = (place / "crates.txt").read_text().splitlines(True)
     (place / "crates.txt").write_text("".join(line for line in lines if not line.startswith("controller:")))
@@ -168,7 +169,8 @@ def times(programs, work, mode, words, rounds):
 
 def print_bytes(large, small):
     print(f"{'bytes':50} {'':>8} {'256':>8} {'16':>8} {'saved':>8}")
-    for name, file in (("a program that steps and drains", "controller.o"), ("the library for C", f"target/staticlib/lib{LIBRARY}.a")):
+    library = f"target/staticlib/lib{LIBRARY}.a"
+    for name, file in (("a program that steps and drains: its object", "controller.o"), ("the same, linked", "controller"), ("the library for C", library)):
         for what, before, after in zip(("code", "constants"), bytes_of(large / file), bytes_of(small / file)):
             print(f"{name:50} {what:>9} {before:>7} {after:>8} {before - after:>8}", flush=True)
 
@@ -203,7 +205,7 @@ def main():
         if code(small / "speed.o") != code(proved) or sorted(listed(small / "speed.o")) != sorted(listed(proved)):
             sys.exit("tables: what was compiled here is not the proved program's code: run `rt check speed` again")
         print_bytes(large, small)
-        print_words(work, (large / "program", small / "program", plain))
+        print_words(work, (large / "speed", small / "speed", plain))
 
 
 if __name__ == "__main__":

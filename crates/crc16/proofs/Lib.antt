@@ -4,3 +4,4 @@ mod Steps
 pub mod Laws
 pub mod Pieces
 mod Nibbles
+mod Examples

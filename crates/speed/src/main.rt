@@ -2,6 +2,7 @@
 // (`drain`); and the CRC's, over the script's bytes as words, by the table of sixteen entries (`crc`) or of 256 (`wide`). Prints how much was done and a
 // sum of all answers, which the plain C program of the same rules must print too (tests/speed/measure.py).
 use events::Event;
+use libc::STDERR_FILENO;
 use libc::STDIN_FILENO;
 use libc::STDOUT_FILENO;
 use script::Record;
@@ -210,7 +211,7 @@ fn main() {
     let mode = letter(&word[..mode_length]);
     if !is_mode(mode) {
         io::write_all(
-            STDOUT_FILENO,
+            STDERR_FILENO,
             b"use: speed ROUNDS step|drain|crc|wide < script.cwb\n",
         );
         return;
