@@ -8,7 +8,8 @@ import sys
 import tempfile
 
 ROOT = pathlib.Path(__file__).resolve().parent.parent
-UNFIT = re.compile(r"can be named from here|is not in scope|unknown name|expects? \d+ arguments?|(?:expected|has) type `tie\.Need|binders?, but its type has room")
+UNFIT = re.compile(r"can be named from here|is not in scope|unknown name|expects? \d+ arguments?|(?:expected|has) type `tie\.Need|binders?, but its type has room"
+                   r"|no proof of `denote\.Triple")
 
 
 @contextlib.contextmanager
