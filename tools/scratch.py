@@ -33,6 +33,15 @@ def checked(place, crate):
     return ran.returncode, ran.stdout + ran.stderr
 
 
+def asked(place, crate):
+    """How many needs the proof file of each function has to answer; functions without one are left out."""
+    with tempfile.TemporaryDirectory() as folder:
+        subprocess.run(["rt", "dev", crate, "--generated", folder], cwd=place, capture_output=True)
+        ties = {file.parent.relative_to(folder).as_posix().partition("/proofs/")[2]: file.read_text() for file in pathlib.Path(folder).rglob("Tie.antt")}
+    proofs = place / "crates" / crate / "proofs"
+    return {name: text.count("(answer : Need-") for name, text in ties.items() if (proofs / name / "Proof.antt").is_file()}
+
+
 def judged(status, said, crate):
     """What the toolchain's words about a changed crate come to, and the functions or theorems that failed.
 
