@@ -1,7 +1,7 @@
 #!/usr/bin/env python3
 """What the CRC's table costs (02 item 5): the code with the table of sixteen entries, and with that of 256 in its place, in one run.
 
-tables.py    needs the proved program (`rt check speed`), gcc, valgrind and an x86-64 machine; about five minutes
+tables.py    needs the proved program (`rt check speed`), gcc, valgrind and an x86-64 machine; three to five minutes
 
 For the second the calls of `crc16` in a copy of the crates are made calls of `crc16_wide`, whose contract is the same. Both are compiled by the kit without
 their proof; the first must have the proved program's code, function by function. Printed are
