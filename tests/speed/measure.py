@@ -6,7 +6,7 @@ measure.py --instructions    counts instructions instead, with valgrind: the sam
                              second round over its events
 
 Each workload runs in both programs by turns, nine times; the least processor time of each counts, user's and system's together, since the kernel
-measures only their sum. Both print how much was done and a sum of all answers; they must print the same. Nanoseconds are for one event, for one tick
+measures only their sum. `step` is one event a call, `list` a round's events in one call, `drain` one event a call and a drain. Both print how much was done and a sum of all answers; they must print the same. Nanoseconds are for one event, for one tick
 of a drain, or for one word of a CRC. What the CRC's table costs by itself is counted by tables.py.
 """
 import os
@@ -47,6 +47,19 @@ def forwards(commands, words):
 CLEAR_POR = frame("REG_WR", [0x8000], address=7)
 POWER_UP = event(POWER, 1)
 FULL = POWER_UP + CLEAR_POR + forwards(8, 64)  # all eight places and all of TX
+
+
+def answered(name, words, fillers, **fields):
+    """A frame with the words that take its answer."""
+    return frame(name, words, **fields)[:-3] + event(WORD, 0xFFFF) * fillers + event(RELEASE)
+
+
+def mixed_frames():
+    """Frames of every kind with their answers, none longer than four words, and a soft reset that empties all, round after round."""
+    frames_once = (answered("FWD_WR_CRC", [1, 2, 3, 4], 2) + answered("REG_WR", [0x20], 2, address=1) + answered("REG_RD", [], 4, address=2, count=3)
+                   + answered("FWD_RD_END_CRC", [5], 2, ends=1) + answered("DATA_RD_CRC", [], 3, count=2) + answered("REG_WR_CRC", [3, 4], 2, address=1)
+                   + answered("FWD_WR", [9, 8], 2) + answered("REG_RD_CRC", [], 3, address=5, count=2) + answered("SOFTRESET_CRC", [], 2))
+    return POWER_UP + frames_once * (3 * (ROUND - 1) // len(frames_once))
 
 
 def steady(before, kind, value):
@@ -121,6 +134,31 @@ def counted(work, plain, name, rounds, mode, records):
     print(f"{name:58} {done_twice - done:>9} {each[0]:7.0f} {each[1]:7.0f} {each[0] / each[1]:6.2f}", flush=True)
 
 
+def by_itself(work, plain, name, rounds, records, costs):
+    """A drain without the events before it: those alone are taken off. `costs` answers what a mode takes of either program, and how much was done."""
+    script = work / "script.cwb"
+    script.write_bytes(HEAD + records)
+    each = []
+    for program in (OURS, plain):
+        (all_of_it, done), (before, events) = (costs(program, rounds, mode, script) for mode in ("drain", "step"))
+        each.append((all_of_it - before) / (done - events))
+    ours, theirs = each
+    width = ".0f" if costs is second_round else ".1f"
+    print(f"{name:58} {done - events:>9} {ours:7{width}} {theirs:7{width}} {ours / theirs:6.2f}", flush=True)
+
+
+def second_round(program, rounds, mode, script):
+    """The instructions of a second round, and how much it did."""
+    (once, done), (twice, done_twice) = (instructions(program, many, mode, script) for many in (1, 2))
+    return twice - once, done_twice - done
+
+
+def least_time(program, rounds, mode, script):
+    """The least nanoseconds of nine runs, and how much was done."""
+    runs = [timed(program, rounds, mode, script) for _ in range(TIMES)]
+    return 1e9 * min(seconds for seconds, _ in runs), int(runs[0][1].split()[0])
+
+
 def main():
     measure, unit = (counted, "instr") if sys.argv[1:] == ["--instructions"] else (measured, "ns")
     if len(sys.argv) > 1 and measure is measured:
@@ -154,11 +192,22 @@ def main():
             ("step: clock readings, 8 places, 512 words in TX", 100, "step", steady(forwards(8, 64), CLOCK, 7)),
             ("step: forwards of 512 words, POR up", 100, "step", (POWER_UP + forwards(1, 512)) * 42),
             ("step: eight commands of 64 words, then ticks, read back", 200, "step", echoed(FULL, 9000)),
+            ("step: mixed frames", 100, "step", mixed_frames()),
+            ("list: random events of all kinds", 100, "list", random_script(work)),
+            ("list: eight commands of 64 words, then ticks", 200, "list", ticks),
+            ("list: ticks, queue and TX empty", 100, "list", steady(b"", TICK, 1)),
+            ("list: ticks, 8 places, 512 words in TX", 100, "list", steady(forwards(8, 64), TICK, 1)),
+            ("list: host words, queue and TX empty", 100, "list", steady(b"", WORD, 0xFFFF)),
+            ("list: clock readings, queue and TX empty", 100, "list", steady(b"", CLOCK, 7)),
+            ("list: forwards of 512 words, POR up", 100, "list", (POWER_UP + forwards(1, 512)) * 42),
+            ("list: mixed frames", 100, "list", mixed_frames()),
+            ("list: eight commands of 64 words, then ticks, read back", 200, "list", echoed(FULL, 9000)),
             ("CRC of a word, table of 16", 200, "crc", forwards(42, 512)),
             ("CRC of a word, table of 256", 200, "wide", forwards(42, 512)),
         ]
         for workload in workloads:
             measure(work, plain, *workload)
+        by_itself(work, plain, "drain: its ticks alone, eight commands of 64 words", 200, FULL, second_round if measure is counted else least_time)
 
 
 if __name__ == "__main__":

@@ -1,10 +1,10 @@
 /*
  * plain.c - the plain C program that the bridge's speed is measured beside.
  *
- *   plain ROUNDS step|drain|crc|wide < script.cwb
+ *   plain ROUNDS step|list|drain|crc|wide < script.cwb
  *
  * The rules are those of ../model/bridge_model.c, which changes its state in place. Added here: the record
- * rules of docs/RECORD-RULES.md, tested before every event and once before a drain, as the bridge does, and a
+ * rules of docs/RECORD-RULES.md, tested before every event, once before a list and once before a drain, as the bridge does, and a
  * table for the CRC, of 256 entries: what is fastest here, though a controller has sixteen since 02 item 5. Prints
  * what the bridge's own program prints (crates/speed): how much was done, and a sum of all answers. For `crc` and
  * `wide` that is the CRC of the script's bytes as words, by sixteen entries and by 256.
@@ -256,6 +256,54 @@ static uint32_t mixed(uint32_t sum, uint32_t said)
     return sum * 31u + said;
 }
 
+/* A record's kind and value are an event's. */
+static bool is_event(unsigned kind, unsigned value)
+{
+    static const uint16_t most[] = { 1, 0xFFFF, 0, 1, 0xFFFF };
+    return kind < sizeof most / sizeof *most && value <= most[kind];
+}
+
+static bool are_events(const unsigned char *records, size_t n)
+{
+    for (size_t i = 0; i < n; i += 3)
+        if (!is_event(records[i], (unsigned)records[i + 1] << 8 | records[i + 2]))
+            return false;
+    return true;
+}
+
+/* 02 item 6: a list of records, four bytes each; the record rules once. Answers how many were done. */
+static size_t list(struct bridge *b, const unsigned char *records, size_t n, unsigned char *out, size_t room, int *note)
+{
+    *note = n % 3 || !are_events(records, n) ? 22 : room / 4 < n / 3 ? 23 : rules_hold(b) ? DONE : 2;
+    if (*note != DONE)
+        return 0;
+    for (size_t i = 0; i < n; i += 3, out += 4) {
+        struct result r = step(b, records[i], (uint16_t)(records[i + 1] << 8 | records[i + 2]));
+        out[0] = (unsigned char)r.note;
+        out[1] = (unsigned char)(r.sdo >> 8);
+        out[2] = (unsigned char)r.sdo;
+        out[3] = (unsigned char)r.sout;
+    }
+    return n / 3;
+}
+
+static void list_rounds(const unsigned char *records, size_t n, long rounds)
+{
+    static struct bridge b;
+    static unsigned char results[4 * ROUND_BYTES / 3 + 4];
+    unsigned long long done = 0;
+    uint32_t sum = 0;
+    power_up(&b, true);
+    while (rounds-- > 0) {
+        int note;
+        size_t many = list(&b, records, n, results, sizeof results, &note);
+        for (const unsigned char *r = results; r < results + 4 * many; r += 4)
+            sum = mixed(sum, mixed(mixed((uint32_t)r[1] << 8 | r[2], r[0]), r[3]));
+        done += many;
+    }
+    printf("%llu done, sum %08x\n", done, (unsigned)sum);
+}
+
 static void crc_rounds(const unsigned char *records, size_t n, long rounds, bool wide)
 {
     unsigned long long done = 0;
@@ -277,7 +325,7 @@ int main(int argc, char **argv)
     unsigned long long done = 0;
     uint32_t sum = 0;
     if (argc != 3 || !good_head(stdin)) {
-        fputs("use: plain ROUNDS step|drain|crc|wide < script.cwb\n", stderr);
+        fputs("use: plain ROUNDS step|list|drain|crc|wide < script.cwb\n", stderr);
         return 2;
     }
     long rounds = atol(argv[1]);
@@ -286,6 +334,10 @@ int main(int argc, char **argv)
     make_table();
     if (argv[2][0] == 'c' || argv[2][0] == 'w') {
         crc_rounds(records, n, rounds, argv[2][0] == 'w');
+        return 0;
+    }
+    if (argv[2][0] == 'l') {
+        list_rounds(records, n, rounds);
         return 0;
     }
     power_up(&b, true);

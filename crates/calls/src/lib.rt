@@ -1,11 +1,12 @@
-// The calls of a case: its record and its stores lent to all five events, a drain and a call-up. A call that went otherwise than wanted is told by a
-// number behind the case: 100 for power, 200 word, 300 tick, 400 release, 500 clock, 600 drain, 700 the word of notes 4 and 5, 800 call-up, and its
-// note or verdict.
+// The calls of a case: its record and its stores lent to all five events, a drain, a call-up and four lists of events. A call that went otherwise than
+// wanted is told by a number behind the case: 100 for power, 200 word, 300 tick, 400 release, 500 clock, 600 drain, 700 call-up, 800 a list, 900 the word
+// of notes 4 and 5, 1000 an empty list, 1100 one with a record that is no event, 1200 one with too few result cells; and its note, verdict or outcome.
 use events::Event;
 use libc::STDOUT_FILENO;
 use records::Fields;
+ghost use Prim.Native.Nat.{_≤_};
 
-// What is wanted of the seven calls: a refusal's note, or any other. And of a word before them: its note, or 0 for no word.
+// What is wanted of the calls: a refusal's note, or any other. And of a word before them: its note, or 0 for no word.
 pub struct Want {
     pub calls: u16,
     pub word: u16,
@@ -21,6 +22,9 @@ pub const TAKEN: u16 = 16;
 const TX_SEAL: u16 = 0xA400;
 
 const RX_SEAL: u16 = 0x5800;
+
+// No result of an event has such a note.
+const RESULT_SEAL: u8 = 0xA5;
 
 fn pattern(i: usize, seal: u16) -> u16 {
     (i % 1024) as u16 ^ seal
@@ -88,19 +92,81 @@ fn drained(lent: &Fields, tx: &mut [u16], rx: &mut [u16], want: u16) -> bool {
     is_right(6, state::number(note), end.ticks == 0, same, want)
 }
 
-fn steps(
+// Of a call-up that is refused no slot shows anything (02, item 13).
+fn called_up(lent: &Fields, tx: &mut [u16], rx: &mut [u16], want: u16) -> bool {
+    let words: [u16; 2] = [0xAA05, 7];
+    let end = board::call_up(board::empty(), records::built(lent), tx, rx, 5, 9, &words);
+    let judged = end.verdict;
+    let slots = end.board.slots;
+    let same = records::is(lent, end.bridge);
+    is_right(7, verdict::number(judged), slots[5].count == 0, same, want)
+}
+
+fn untouched(results: &[u8; 8]) -> bool {
+    let mut all = true;
+    let mut i: usize = 0;
+    while i < 8 {
+        all = all & (results[i] == RESULT_SEAL);
+        i = i + 1;
+    }
+    all
+}
+
+// Some bytes of a power-up and two releases, with results for two events (02, item 6). A release of a value is no event.
+fn listed(
+    lent: &Fields,
+    tx: &mut [u16],
+    rx: &mut [u16],
+    value: u8,
+    bytes: usize,
+    call: u16,
+    want: u16,
+) -> bool
+    requires { ⌜ bytes ≤ 9 ⌝ }
+{
+    let list: [u8; 9] = [0, 0, 1, 2, 0, value, 2, 0, 0];
+    let mut results = [RESULT_SEAL; 8];
+    let end = whole_night::night(records::built(lent), tx, rx, &list[0..bytes], &mut results);
+    let outcome = end.outcome;
+    let silent = (end.done == 0) & untouched(&results);
+    let same = records::is(lent, end.state);
+    is_right(call, whole_night::number(outcome), silent, same, want)
+}
+
+// An empty list that is taken comes to 0 and leaves all as lent; what is wrong with a list is found before its stores and its record are looked at.
+fn one(
+    lent: &Fields,
+    after: &Fields,
+    tx: &mut [u16],
+    rx: &mut [u16],
+    call: u16,
+    want: Want,
+) -> bool {
+    match call {
+        6 => drained(lent, tx, rx, want.calls),
+        7 => called_up(lent, tx, rx, want.calls),
+        8 => listed(lent, tx, rx, 0, 6, call, want.calls),
+        9 => stepped(lent, after, tx, rx, call, want.word),
+        10 => listed(lent, tx, rx, 0, 0, call, want.calls % TAKEN),
+        11 => listed(lent, tx, rx, 1, 6, call, 22),
+        12 => listed(lent, tx, rx, 0, 9, call, 23),
+        _ => stepped(lent, lent, tx, rx, call, want.calls),
+    }
+}
+
+fn all(
     lent: &Fields,
     after: &Fields,
     tx: &mut [u16],
     rx: &mut [u16],
     first: u16,
     last: u16,
-    want: u16,
+    want: Want,
 ) -> bool {
     let mut right = true;
     let mut call = first;
     while call < last {
-        right = right & stepped(lent, after, tx, rx, call, want);
+        right = right & one(lent, after, tx, rx, call, want);
         call = call + 1;
     }
     right
@@ -110,35 +176,20 @@ fn are_filled(tx: &[u16], rx: &[u16]) -> bool {
     filled(tx, TX_SEAL) & filled(rx, RX_SEAL)
 }
 
-fn last_word(note: u16) -> u16 {
-    if note == 0 {
-        return 7;
+// Of the calls that leave the stores as lent in every case: the word, where one is wanted, and three of the lists.
+fn first_quiet(word: u16) -> u16 {
+    if word == 0 {
+        return 10;
     }
-    8
-}
-
-// Of a call-up that is refused no slot shows anything (02, item 13).
-fn called_up(lent: &Fields, tx: &mut [u16], rx: &mut [u16], want: u16) -> bool {
-    let words: [u16; 2] = [0xAA05, 7];
-    let end = board::call_up(board::empty(), records::built(lent), tx, rx, 5, 9, &words);
-    let judged = end.verdict;
-    let slots = end.board.slots;
-    let same = records::is(lent, end.bridge);
-    is_right(8, verdict::number(judged), slots[5].count == 0, same, want)
-}
-
-fn seven(lent: &Fields, tx: &mut [u16], rx: &mut [u16], want: u16) -> bool {
-    let events = steps(lent, lent, tx, rx, 1, 6, want);
-    let drain = drained(lent, tx, rx, want);
-    events & drain & called_up(lent, tx, rx, want)
+    9
 }
 
 // A cell that one of the calls changes is changed after the last.
 fn called(lent: &Fields, after: &Fields, tx: &mut [u16], rx: &mut [u16], want: Want) -> bool {
-    let last = last_word(want.word);
-    let word = steps(lent, after, tx, rx, 7, last, want.word) & are_filled(tx, rx);
-    let calls = seven(lent, tx, rx, want.calls);
-    word & calls & ((want.calls == TAKEN) | are_filled(tx, rx))
+    let first = first_quiet(want.word);
+    let quiet = all(lent, after, tx, rx, first, 13, want) & are_filled(tx, rx);
+    let calls = all(lent, after, tx, rx, 1, 9, want);
+    quiet & calls & ((want.calls == TAKEN) | are_filled(tx, rx))
 }
 
 fn with_stores(lent: &Fields, after: &Fields, tx: &mut [u16], rx: &mut [u16], want: Want) -> bool {

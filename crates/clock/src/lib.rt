@@ -17,14 +17,14 @@ fn elapsed(reading: u16, mark: u16) -> u16
     std::num::wrapping_sub_u16(reading, mark)
 }
 
-fn watch_fires(clock: Clock, reading: u16) -> bool
+pub fn watch_fires(clock: Clock, reading: u16) -> bool
     ensures { λ r. ⌜ r ≡ watchFires clock reading ⌝ }
 {
     let due = 5 <= elapsed(reading, clock.watch_mark);
     clock.watching & due
 }
 
-fn dog_fires(bridge: Bridge, reading: u16) -> bool
+pub fn dog_fires(bridge: Bridge, reading: u16) -> bool
     ensures { λ r. ⌜ r ≡ dogFires bridge reading ⌝ }
 {
     let control = bridge.control;
@@ -54,7 +54,7 @@ fn flags_at(flags: Flags, fires: bool) -> Flags
     flags
 }
 
-fn control_at(control: Control, bites: bool, fires: bool, count: u16) -> Control
+pub fn control_at(control: Control, bites: bool, fires: bool, count: u16) -> Control
     ensures { λ r. ⌜ r ≡ controlAt control bites fires count ⌝ }
 {
     let before = control.mode;

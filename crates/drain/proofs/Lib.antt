@@ -1,4 +1,5 @@
 mod Laws
+mod Hushed
 pub mod Ticks
 pub mod Sum
 pub mod Steps

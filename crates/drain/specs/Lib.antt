@@ -1,3 +1,4 @@
 pub mod Drain
 pub mod Cost
 pub mod Steps
+pub mod Hush

@@ -1,4 +1,6 @@
 // Draining (01 The line): ticks with SIN 1 until nothing is left to send, and their number.
+mod glide;
+
 use events::Event;
 use state::Bridge;
 use state::Note;
@@ -24,7 +26,8 @@ fn at_rest(bridge: Bridge) -> bool
     idle & !(may & waits)
 }
 
-// Ticks of a record that obeys the rules: each tick keeps them, so they are not tested again.
+// Ticks of a record that obeys the rules: each tick keeps them, so they are not tested again. Inside a piece they are made in a run; between
+// two pieces a tick may load, begin or send something, and is a whole turn.
 fn run(bridge: Bridge, tx: &mut [u16], rx: &mut [u16], budget: u32) -> Drained
     requires { ⌜ Ready bridge (now tx) (now rx) ⌝ }
     ensures { λ r. ⌜ end r (now (tx .exit)) (now (rx .exit)) ≡ runOf ours budget 0 bridge (now (tx .entry)) (now (rx .entry)) ⌝ }
@@ -32,6 +35,13 @@ fn run(bridge: Bridge, tx: &mut [u16], rx: &mut [u16], budget: u32) -> Drained
     let mut b = bridge;
     let mut ticks: u32 = 0;
     while ticks < budget {
+        let next = ticks + 1;
+        let g = glide::run(b, ticks, budget);
+        if ticks < g.ticks {
+            b = lull::laid(b, false, g.hot);
+            ticks = g.ticks;
+            continue;
+        }
         if at_rest(b) {
             return Drained {
                 state: b,
@@ -39,10 +49,10 @@ fn run(bridge: Bridge, tx: &mut [u16], rx: &mut [u16], budget: u32) -> Drained
                 note: Note::Done,
             };
         }
-        let answer = quick::turn(b, tx, rx, Event::Tick(true));
+        let answer = events::turn(b, tx, rx, Event::Tick(true));
         let note = answer.note;
         b = answer.state;
-        ticks = ticks + 1;
+        ticks = next;
         if state::number(note) != 0 {
             return Drained {
                 state: b,

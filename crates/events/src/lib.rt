@@ -30,7 +30,7 @@ pub struct Answer {
 }
 
 // A stored word goes to the ring's next cell; no other cell is written.
-fn write_cell(cells: &mut [u16], ring: Ring, store: Store)
+pub fn write_cell(cells: &mut [u16], ring: Ring, store: Store)
     requires { ⌜ RingFit (length (now cells)) ring ⌝ }
     ensures { λ _. ⌜ now (cells .exit) ≡ written (length (now (cells .entry))) (now (cells .entry)) ring store ⌝ }
 {

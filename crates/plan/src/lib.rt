@@ -89,7 +89,7 @@ fn with_reader(receiving: Receiving, belongs: bool, storing: bool) -> Receiving
 }
 
 // A command whose place is cleared away is neither stored nor compared.
-fn cleared_away(receiving: Receiving, deed: Deed) -> Receiving
+pub fn cleared_away(receiving: Receiving, deed: Deed) -> Receiving
     ensures { λ r. ⌜ r ≡ clearedAway receiving deed ⌝ }
 {
     match deed {
@@ -101,7 +101,7 @@ fn cleared_away(receiving: Receiving, deed: Deed) -> Receiving
     }
 }
 
-fn received(receiving: Receiving, receive: Receive) -> Receiving
+pub fn received(receiving: Receiving, receive: Receive) -> Receiving
     requires { ⌜ RingFit rxSize (receiving .rx) ⌝ }
     ensures { λ r. ⌜ r ≡ receivedOf receiving receive ⌝ }
 {
@@ -165,7 +165,7 @@ fn is_silent(control: Control) -> bool
 }
 
 // STATUS is answered, taken after all effects.
-fn concluded(status: bool, control: Control, phase: Phase) -> Phase
+pub fn concluded(status: bool, control: Control, phase: Phase) -> Phase
     ensures { λ r. ⌜ r ≡ concludedOf ours status control phase ⌝ }
 {
     if status {

@@ -18,11 +18,11 @@ use Rattle.script.specs.Script.{valueOf, recordOf, lineOf}
 use Rattle.script.specs.declared.Line.{Line}
 use Rattle.script.specs.declared.Record.{Record}
 use Rattle.script.specs.declared.Record.the-variants.{Good, Bad}
-use Rattle.playing.specs.Playing.{bytesOf, lineFor, Played, stopped, after, judged, played, room, End, end, placed, shown}
-use Rattle.playing.specs.Walk.{partOf}
+use Rattle.playing.specs.Playing.{bytesOf, lineFor, Played, stopped, after, judged, played, room, end, shown}
+use Rattle.playing.specs.Walk.{partOf, shownAt}
 
 -- stores in a row, and then more of them
-sets-append : (vs ws l : List ℕ) (i : ℕ) → sets l i (vs ++ ws) ≡ sets (sets l i vs) (i + length vs) ws
+pub sets-append : (vs ws l : List ℕ) (i : ℕ) → sets l i (vs ++ ws) ≡ sets (sets l i vs) (i + length vs) ws
 sets-append [] ws l i = sym (ap (λ (k : ℕ). sets l k ws) (add-zero i))
 sets-append (v ∷ vs) ws l i =
     let e : suc i + length vs ≡ i + suc (length vs) = omega arith in
@@ -64,10 +64,6 @@ module _ (cells : List ℕ) (at : ℕ) (line : Line) where
         let e : i ≡ line .length = omega (arith, v .some) in
         v .done ∙ ap (λ (k : ℕ). sets cells at (take k (line .bytes))) e
 
--- what a part prints, put at a place of the output
-abbrev pub shownAt : Played → List ℕ → ℕ → End
-shownAt p cells at = end (partOf (p .bridge) (at + length (p .printed)) (p .on)) (p .tx) (p .rx) (sets cells at (p .printed))
-
 -- a text and then the rest
 pub shown-after : (text : List ℕ) (p : Played) (cells : List ℕ) (at : ℕ) → shownAt p (sets cells at text) (at + length text) ≡ shownAt (after text p) cells at
 shown-after text p cells at =
@@ -76,7 +72,7 @@ shown-after text p cells at =
     ap₂ (λ (n : ℕ) (c : List ℕ). end (partOf (p .bridge) n (p .on)) (p .tx) (p .rx) c) e (sym (sets-append text (p .printed) cells at))
 
 -- a line has sixteen or seventeen bytes
-abbrev Short : Line → Type 0
+abbrev pub Short : Line → Type 0
 Short line = (length (bytesOf line) ≡ line .length) × (line .length ≤ 17)
 
 pub line-short : (kind value note sdo : ℕ) (sout : Bool) → Short (lineOf kind value note sdo sout)

@@ -1,32 +1,36 @@
--- One record of a script, its line put at a place of the output: what the inner functions do. Assumes nothing.
-use mathlib.Core.Bool.{Bool, true, false}
-use Prim.Native.Nat.{ℕ, _+_}
+-- The groups of a script's records, and their lines at a place of the output: what the inner functions do. Assumes nothing.
+use mathlib.Core.Path.{_≡_}
+use mathlib.Core.Bool.{Bool}
+use mathlib.Core.List.{List, [], _∷_}
+use Prim.Native.Nat.{ℕ, zero, suc, _+_, _≤_}
+use lib.ListN.{length}
 use lib.Seq.{sets}
-use Rattle.command.specs.Layouts.{Layout}
+use Rattle.base.specs.Pick.{pick}
 use Rattle.state.specs.declared.Bridge.{Bridge}
-use Rattle.events.specs.Turn.{Out}
 use Rattle.events.specs.declared.Event.{Event}
-use Rattle.bridge.specs.Step.{step}
-use Rattle.script.specs.Script.{recordOf}
+use Rattle.script.specs.Script.{valueOf, recordOf}
+use Rattle.listing.specs.Records.{isGood}
+use Rattle.whole_night.specs.Night.{events, eventsIn}
 use Rattle.playing.specs.declared.Part.{Part}
-use Rattle.playing.specs.Playing.{saidLength, badRecord, bytesOf, lineFor, judged, End, end}
+use Rattle.playing.specs.Playing.{Played, End, end}
 
 abbrev pub partOf : Bridge → ℕ → Bool → Part
 partOf b length on = record { bridge = b; length = length; on = on }
 
--- an event's line, and the place after it
-abbrev pub lineAt : ℕ → ℕ → Out → End → End
-lineAt kind value o from =
-    end (partOf (o .answer .state) (from .part .length + lineFor kind value (o .answer) .length) true) (o .tx) (o .rx)
-    (sets (from .out) (from .part .length) (bytesOf (lineFor kind value (o .answer))))
+-- what a part prints, and the place after it
+abbrev pub shownAt : Played → List ℕ → ℕ → End
+shownAt p cells at = end (partOf (p .bridge) (at + length (p .printed)) (p .on)) (p .tx) (p .rx) (sets cells at (p .printed))
 
--- `bad record`, and the place after it
-abbrev pub stopAt : End → End
-stopAt from =
-    end (partOf (from .part .bridge) (from .part .length + saidLength) false) (from .tx) (from .rx)
-    (sets (from .out) (from .part .length) (bytesOf badRecord))
+-- how many records in front are events, so many at the most
+unfoldable pub ahead : ℕ → List ℕ → ℕ
+ahead zero records = 0
+ahead (suc n) [] = 0
+ahead (suc n) (kind ∷ []) = 0
+ahead (suc n) (kind ∷ high ∷ []) = 0
+ahead (suc n) (kind ∷ high ∷ low ∷ rest) = pick (isGood (recordOf kind (valueOf high low))) (suc (ahead n rest)) 0
 
--- a record, from where the records before it ended
-unfoldable pub oneOf : Layout → End → ℕ → ℕ → End
-oneOf l from kind value =
-    judged (recordOf kind value) (λ (e : Event). lineAt kind value (step l (from .part .bridge) (from .tx) (from .rx) e) from) (stopAt from)
+-- what one call is given: events, 64 at the most
+pub record Group (records : List ℕ) : Type 0 where
+  pub es : List Event
+  pub told : eventsIn records ≡ events es
+  pub few : length es ≤ 64

@@ -1,16 +1,16 @@
-// What the bench prints of a script (01 The bench program): its head, and its records in parts of any size. The program over it only reads and
-// writes.
+// What the bench prints of a script (01 The bench program): its head, and its records in parts of any size. Events are done in groups, a list call
+// each (02 item 6). The program over it only reads and writes.
 use script::Line;
-use script::Record;
 use state::Bridge;
 ghost use mathlib.Core.Path.{_≡_};
-ghost use mathlib.Core.Bool.{true, false};
-ghost use Prim.Native.Nat.{_+_, _≤_};
+ghost use mathlib.Core.Bool.{false};
+ghost use Prim.Native.Nat.{_+_, _*_, _/_, _≤_};
 ghost use lib.ListN.{length};
 ghost use lib.Seq.{sets};
 ghost use Rattle.command.specs.Layouts.{ours};
 ghost use Rattle.playing.specs.Playing.{badScript, badRecord, bytesOf, end, played, shown, room, play as playOf, begun, begin as beginOf};
-ghost use Rattle.playing.specs.Walk.{partOf, oneOf};
+ghost use Rattle.playing.specs.Walk.{partOf, shownAt, ahead as aheadOf, Group};
+ghost use Rattle.playing.specs.Lines.{firstLine, linesIn, refusedLines};
 
 // The state after a part of a script, the bytes that it printed, and whether the script goes on.
 pub struct Part {
@@ -106,52 +106,120 @@ fn stop(bridge: Bridge, out: &mut [u8], at: usize) -> Part
     made(bridge, at + 11, false)
 }
 
-// One record: its event done and its line printed, or the script's end.
-fn one(
+// How many records in front are events; no more than 64 are counted.
+fn ahead(records: &[u8]) -> usize
+    ensures { λ r. ⌜ r ≡ aheadOf 64 (now (records .entry)) ⌝ }
+{
+    let mut left = records;
+    let mut k: usize = 0;
+    while k < 64 {
+        if left.len() < 3 {
+            return k;
+        }
+        if listing::is_event(left, 0) {
+            k = k + 1;
+            left = &left[3..];
+        } else {
+            return k;
+        }
+    }
+    k
+}
+
+fn wide(byte: u8) -> u16
+    ensures { λ r. ⌜ r ≡ byte ⌝ }
+{
+    byte as u16
+}
+
+// The line of the first record, an event with these results.
+fn first_line(records: &[u8], results: &[u8]) -> Line
+    requires { ⌜ (3 ≤ length (now records)) × (4 ≤ length (now results)) ⌝ }
+    ensures { λ r. ⌜ r ≡ firstLine (now (records .entry)) (now (results .entry)) ⌝ }
+{
+    let value = script::value(records[1], records[2]);
+    let note = wide(results[0]);
+    let sdo = script::value(results[1], results[2]);
+    let sout = results[3] == 1;
+    script::printed(records[0], value, note, sdo, sout)
+}
+
+// The lines of events with these results; answers the place after them.
+fn print(records: &[u8], results: &[u8], out: &mut [u8], at: usize) -> usize
+    requires { ⌜ (length (now records) / 3 * 4 ≤ length (now results)) × (at + length (now records) / 3 * 17 ≤ length (now out)) ⌝ }
+    ensures { λ r. ⌜ (r ≡ at + length (linesIn (now (records .entry)) (now (results .entry)))) × (now (out .exit) ≡ sets (now (out .entry)) at (linesIn (now (records .entry)) (now (results .entry)))) ⌝ }
+{
+    let mut left = records;
+    let mut given = results;
+    let mut next = at;
+    while 3 <= left.len() {
+        let line = first_line(left, given);
+        next = put(out, next, line);
+        left = &left[3..];
+        given = &given[4..];
+    }
+    next
+}
+
+// The lines of events that are refused with this note; answers the place after them.
+fn print_refused(records: &[u8], note: u16, out: &mut [u8], at: usize) -> usize
+    requires { ⌜ at + length (now records) / 3 * 17 ≤ length (now out) ⌝ }
+    ensures { λ r. ⌜ (r ≡ at + length (refusedLines note (now (records .entry)))) × (now (out .exit) ≡ sets (now (out .entry)) at (refusedLines note (now (records .entry)))) ⌝ }
+{
+    let mut left = records;
+    let mut next = at;
+    while 3 <= left.len() {
+        let value = script::value(left[1], left[2]);
+        let line = script::printed(left[0], value, note, 65535, true);
+        next = put(out, next, line);
+        left = &left[3..];
+    }
+    next
+}
+
+// Events in one call, and then their lines. A list that is refused leaves all as lent, and so does each of its events: with the same note.
+fn group(
     start: Bridge,
     tx: &mut [u16],
     rx: &mut [u16],
-    kind: u8,
-    value: u16,
+    records: &[u8],
     out: &mut [u8],
     at: usize,
 ) -> Part
-    requires { ⌜ at + 17 ≤ length (now out) ⌝ }
-    ensures { λ r. ⌜ end r (now (tx .exit)) (now (rx .exit)) (now (out .exit)) ≡ oneOf ours (end (partOf start at true) (now (tx .entry)) (now (rx .entry)) (now (out .entry))) kind value ⌝ }
+    requires { ⌜ Group (now records) ⌝ }
+    requires { ⌜ at + length (now records) / 3 * 17 ≤ length (now out) ⌝ }
+    ensures { λ r. ⌜ end r (now (tx .exit)) (now (rx .exit)) (now (out .exit)) ≡ shownAt (played ours start (now (tx .entry)) (now (rx .entry)) (now (records .entry))) (now (out .entry)) at ⌝ }
 {
-    let Record::Good(event) = script::read(kind, value) else {
-        return stop(start, out, at);
-    };
-    let answer = bridge::step(start, tx, rx, event);
-    let note = answer.note;
-    let line = script::printed(kind, value, state::number(note), answer.sdo, answer.sout);
-    let next = put(out, at, line);
-    let after = answer.state;
+    let mut results = [0u8; 256];
+    let listed = whole_night::night(start, tx, rx, records, &mut results);
+    let outcome = listed.outcome;
+    let note = whole_night::number(outcome);
+    if note != 0 {
+        let next = print_refused(records, note, out, at);
+        return made(start, next, true);
+    }
+    let next = print(records, &results, out, at);
+    let after = listed.state;
     made(after, next, true)
 }
 
-// The records in turn, until one is wrong or cut.
+// The records group by group, until one is wrong or cut.
 fn run(start: Bridge, tx: &mut [u16], rx: &mut [u16], records: &[u8], out: &mut [u8]) -> Part
     requires { ⌜ room (now records) ≤ length (now out) ⌝ }
     ensures { λ r. ⌜ end r (now (tx .exit)) (now (rx .exit)) (now (out .exit)) ≡ shown (played ours start (now (tx .entry)) (now (rx .entry)) (now (records .entry))) (now (out .entry)) ⌝ }
 {
     let mut bridge = start;
     let mut at: usize = 0;
-    let mut i: usize = 0;
-    while i + 3 <= records.len() {
-        let next = i + 3;
-        let value = script::value(records[i + 1], records[i + 2]);
-        let part = one(bridge, tx, rx, records[i], value, out, at);
-        if part.on {
-            bridge = part.bridge;
-            at = part.length;
-            i = next;
-        } else {
-            return part;
+    let mut left = records;
+    while 0 < left.len() {
+        let n = ahead(left) * 3;
+        if n == 0 {
+            return stop(bridge, out, at);
         }
-    }
-    if i < records.len() {
-        return stop(bridge, out, at);
+        let part = group(bridge, tx, rx, &left[..n], out, at);
+        bridge = part.bridge;
+        at = part.length;
+        left = &left[n..];
     }
     made(bridge, at, true)
 }

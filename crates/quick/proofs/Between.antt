@@ -78,17 +78,17 @@ module _ (s : Sending) (may : Bool) where
       (pick-keeps (λ (n : Next). Stay ≡ n) may _ _ (λ k. pick-not-lt (s .queue .begun) (s .queue .used) Stay _ _ (u k) refl) (λ k. refl)))))
 
 -- the sender's half, where no place is begun or sent
-abbrev moved : Next → Sending → ℕ → Sending
+abbrev pub moved : Next → Sending → ℕ → Sending
 moved n s w = record { tx = s .tx; queue = s .queue; sender = senderAfter n s w }
 
-abbrev plain : Next → Sending → ℕ → Sent
+abbrev pub plain : Next → Sending → ℕ → Sent
 plain n s w = record { sending = moved n s w; sout = bitSent n (s .sender) w; starved = false; started = false; differs = false }
 
-abbrev unsent : Queue → Returned
+abbrev pub unsent : Queue → Returned
 unsent q = record { queue = q; differs = false }
 
 module _ (s : Sending) (may : Bool) (w : ℕ) where
-  unfinished : (n : Next) → (idle (senderAfter n s w) && underWay (s .queue)) ≡ false → leb 18 (senderAfter n s w .gone) ≡ false
+  pub unfinished : (n : Next) → (idle (senderAfter n s w) && underWay (s .queue)) ≡ false → leb 18 (senderAfter n s w .gone) ≡ false
       → finished (moved n s w) ≡ unsent (s .queue)
   unfinished n h k = sym (to-kept (moved n s w) _ _ refl refl _ refl h (rw k refl))
 
@@ -108,12 +108,12 @@ module _ (s : Sending) (may : Bool) (w : ℕ) where
   unfolding tickSender sentBy advanced
   sent-on h = rw (goes-on s may h, not-over h) refl
 
-  sent-none : rests s may ≡ true → tickSender s may w ≡ plain Stay s w
+  pub sent-none : rests s may ≡ true → tickSender s may w ≡ plain Stay s w
   unfolding tickSender sentBy advanced
   sent-none h = rw (stays s may h, none-over h) refl
 
 -- the whole tick
-abbrev short : Bridge → Bool → Next → ℕ → Did
+abbrev pub short : Bridge → Bool → Next → ℕ → Did
 short b sin n w = record {
   bridge = record {
     control = settled (b .control) (b .receiving .rx .count) false;
@@ -129,12 +129,12 @@ short b sin n w = record {
   rx = Keep;
 }
 
-ticked-short : (b : Bridge) (sin : Bool) (w : ℕ) (n : Next) → tickSender (b .sending) (mayStart (b .control)) w ≡ plain n (b .sending) w
+pub ticked-short : (b : Bridge) (sin : Bool) (w : ℕ) (n : Next) → tickSender (b .sending) (mayStart (b .control)) w ≡ plain n (b .sending) w
     → hear (b .receiving .reader .ear) sin .found ≡ Nothing → ticked b sin w ≡ short b sin n w
 unfolding ticked tickHears tickEnds tickReader takenBy flagsSent starvedFlags controlTicked settled phaseAfter tickNote pick
 ticked-short b sin w n e h = rw (e, h) refl
 
-heard-none : (f : Found) → isNothing f ≡ true → f ≡ Nothing
+pub heard-none : (f : Found) → isNothing f ≡ true → f ≡ Nothing
 heard-none Nothing h = refl
 heard-none Start h = cc
 heard-none (WordFound w) h = cc

@@ -22,7 +22,7 @@ ghost use Rattle.state.specs.Facts.{QueueFit, HostFit};
 ghost use Rattle.quick.specs.Passing.{isNothing, inPiece, rests as restsOf, passesBy, sinOf, passes as passesOf};
 ghost use Rattle.events.specs.Turn.{out, Ready, turn as turnOf};
 
-fn is_nothing(found: Found) -> bool
+pub fn is_nothing(found: Found) -> bool
     ensures { λ r. ⌜ r ≡ isNothing found ⌝ }
 {
     match found {
@@ -45,7 +45,7 @@ fn in_piece(sender: Sender) -> bool
 }
 
 // Nothing to send, and nothing that waits may begin.
-fn rests(sending: Sending, may: bool) -> bool
+pub fn rests(sending: Sending, may: bool) -> bool
     requires { ⌜ QueueFit (sending .queue) ⌝ }
     ensures { λ r. ⌜ r ≡ restsOf sending may ⌝ }
 {

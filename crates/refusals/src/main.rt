@@ -1,7 +1,8 @@
 // Tries notes 1 and 2 (01 Notes) as a caller, by the cases of a table: stores of wrong lengths, and each rule of docs/RECORD-RULES.md broken
 // alone, just past its limit, beside the same record at the limit. A refusal has to leave the record and both stores as lent. Where a broken
-// record is one that a step would mend, or answer otherwise than 01 says, the good one's word is tried beside it (notes 4 and 5). The table is
-// standard input; its head says how it is written. A line that cannot be read is a case that went wrong.
+// record is one that a step would mend, or answer otherwise than 01 says, the good one's word is tried beside it (notes 4 and 5). A list of events that
+// is wrong in itself is refused so (22 and 23 of 02, item 6) in every case. The table is standard input; its head says how it is written. A line that
+// cannot be read is a case that went wrong.
 
 use calls::BROKEN;
 use calls::STORES;
@@ -172,5 +173,5 @@ fn main() {
     tell(tally.stores, b" of note 1, ");
     tell(tally.broken, b" of note 2, ");
     tell(tally.taken, b" taken, ");
-    tell(tally.wrong, b" wrong; six calls each\n");
+    tell(tally.wrong, b" wrong; eleven calls each\n");
 }

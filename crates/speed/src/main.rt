@@ -1,5 +1,5 @@
-// The bridge's speed: the events of a script, round after round, one event a call (`step`) or with a drain at the end of each round
-// (`drain`); and the CRC's, over the script's bytes as words, by the table of sixteen entries (`crc`) or of 256 (`wide`). Prints how much was done and a
+// The bridge's speed: the events of a script, round after round, one event a call (`step`), all of a round's in one call (`list`), or one event a call
+// with a drain at the end of each round (`drain`); and the CRC's, over the script's bytes as words, by the table of sixteen entries (`crc`) or of 256 (`wide`). Prints how much was done and a
 // sum of all answers, which the plain C program of the same rules must print too (tests/speed/measure.py).
 use events::Event;
 use libc::STDERR_FILENO;
@@ -7,7 +7,9 @@ use libc::STDIN_FILENO;
 use libc::STDOUT_FILENO;
 use script::Record;
 use state::Bridge;
-ghost use Prim.Native.Nat.{_≤_};
+ghost use mathlib.Core.Path.{_≡_};
+ghost use Prim.Native.Nat.{_*_, _≤_};
+ghost use lib.ListN.{length};
 
 // What was done so far: the state, events and ticks, and the sum of their answers.
 struct Ran {
@@ -74,6 +76,66 @@ fn round(start: Ran, tx: &mut [u16], rx: &mut [u16], records: &[u8]) -> Ran {
         let value = script::value(records[i + 1], records[i + 2]);
         ran = one(ran, tx, rx, records[i], value);
         i = next;
+    }
+    ran
+}
+
+// What an event answered, by its four bytes in a list's results.
+fn said(note: u8, high: u8, low: u8, sout: u8) -> u32 {
+    mixed(
+        mixed(script::value(high, low) as u32, note as u32),
+        sout as u32,
+    )
+}
+
+// With what the first so many events of a list answered, four bytes each.
+fn summed(start: u32, results: &[u8], many: usize) -> u32
+    requires { ⌜ many * 4 ≤ length (now results) ⌝ }
+{
+    let mut sum = start;
+    let mut k: usize = 0;
+    while k < many {
+        let next = k + 1;
+        let i = k * 4;
+        sum = mixed(
+            sum,
+            said(results[i], results[i + 1], results[i + 2], results[i + 3]),
+        );
+        k = next;
+    }
+    sum
+}
+
+fn listed(ran: Ran, tx: &mut [u16], rx: &mut [u16], records: &[u8], results: &mut [u8]) -> Ran
+    requires { ⌜ length (now results) ≡ 87384 ⌝ }
+{
+    let answer = whole_night::night(ran.bridge, tx, rx, records, results);
+    let after = answer.state;
+    let done = answer.done;
+    if 21846 < done {
+        return ran;
+    }
+    Ran {
+        bridge: after,
+        done: std::num::wrapping_add_u64(ran.done, done as u64),
+        sum: summed(ran.sum, results, done),
+    }
+}
+
+// Every round is one list; the results have room for all that a round holds.
+fn lists(records: &[u8], many: u32) -> Ran {
+    let mut tx = [0u16; 512];
+    let mut rx = [0u16; 256];
+    let mut results = [0u8; 87384];
+    let mut ran = Ran {
+        bridge: Bridge::good(),
+        done: 0,
+        sum: 0,
+    };
+    let mut left = many;
+    while left > 0 {
+        ran = listed(ran, &mut tx, &mut rx, records, &mut results);
+        left = left - 1;
     }
     ran
 }
@@ -186,14 +248,15 @@ fn letter(mode: &[u8]) -> u8 {
 fn run(records: &[u8], many: u32, mode: u8) -> Ran {
     match mode {
         0x63 => crc_rounds(records, many, false),
+        0x6C => lists(records, many),
         0x77 => crc_rounds(records, many, true),
         _ => rounds(records, many, mode == 0x64),
     }
 }
 
-// By its letter: `step`, `drain`, `crc` or `wide`.
+// By its letter: `step`, `list`, `drain`, `crc` or `wide`.
 fn is_mode(mode: u8) -> bool {
-    let events = (mode == 0x73) | (mode == 0x64);
+    let events = (mode == 0x73) | (mode == 0x6C) | (mode == 0x64);
     let tables = (mode == 0x63) | (mode == 0x77);
     events | tables
 }
@@ -212,7 +275,7 @@ fn main() {
     if !is_mode(mode) {
         io::write_all(
             STDERR_FILENO,
-            b"use: speed ROUNDS step|drain|crc|wide < script.cwb\n",
+            b"use: speed ROUNDS step|list|drain|crc|wide < script.cwb\n",
         );
         return;
     }

@@ -77,7 +77,7 @@ fn phase_after(phase: Phase, starved: bool) -> Phase
     phase
 }
 
-fn same(a: bool, b: bool) -> bool
+pub fn same(a: bool, b: bool) -> bool
     ensures { λ r. ⌜ r ≡ sameOf a b ⌝ }
 {
     if a {

@@ -2,7 +2,8 @@
 use borrow.Author.Needs.{needs}
 use Rattle.bridge.specs.Step.{step}
 use Rattle.base.specs.Pick.{picks}
-use Rattle.bridge.proofs.Laws.{to-refused, is-ready}
+use Rattle.bridge.proofs.Keeping.{is-ready}
+use Rattle.bridge.proofs.Laws.{to-refused}
 use Rattle.bridge.proofs.step.Statement.{statement}
 use Rattle.bridge.proofs.step.Tie as tie
 

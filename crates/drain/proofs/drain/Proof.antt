@@ -1,7 +1,8 @@
 use borrow.Author.Needs.{needs}
 use Rattle.drain.specs.Drain.{drain}
 use Rattle.base.specs.Pick.{picks}
-use Rattle.drain.proofs.Laws.{to-refused, is-ready}
+use Rattle.bridge.proofs.Keeping.{is-ready}
+use Rattle.drain.proofs.Laws.{to-refused}
 use Rattle.drain.proofs.drain.Statement.{statement}
 use Rattle.drain.proofs.drain.Tie as tie
 

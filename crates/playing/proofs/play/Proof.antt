@@ -6,6 +6,6 @@ use Rattle.playing.proofs.play.Tie as tie
 pub play-spec : {M : Type 1} → statement M
 play-spec =
     tie.close
-    (tie.spec (λ c κs. search needs) (λ c. search (needs, to-small, to-smaller, to-play)) (λ c. search needs) (λ c κs. search needs)
-    (λ c. search (needs, to-small, to-smaller, to-play)) (λ c κs. search needs) (λ c. search needs) (λ c. search needs)
-    (λ c. search needs) (λ c. search (needs, to-small, to-smaller, to-play)))
+    (tie.spec (λ c κs. search needs) (λ c. search (needs, to-small)) (λ c. search needs) (λ c κs. search needs)
+    (λ c. search (needs, to-smaller)) (λ c κs. search needs) (λ c. search needs) (λ c. search needs)
+    (λ c. search needs) (λ c. search (needs, to-play)))

@@ -1,0 +1,4 @@
+pub mod Line
+pub mod InOrder
+pub mod After
+mod Examples

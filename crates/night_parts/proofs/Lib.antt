@@ -1,0 +1,4 @@
+pub mod Single
+mod Hushed
+mod Hosts
+mod Moves

@@ -1,0 +1,4 @@
+pub mod Parts
+pub mod Hush
+pub mod Place
+pub mod Moving

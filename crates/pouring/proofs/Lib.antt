@@ -1,0 +1,4 @@
+mod Cases
+mod Words
+mod Runs
+pub mod Laws

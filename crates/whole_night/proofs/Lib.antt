@@ -1,0 +1,4 @@
+pub mod Link
+pub mod Theorems
+mod Examples
+mod Fits
