@@ -3,11 +3,11 @@
 
 run.py [--write]    the totals, and what is never taken without a reason; --write also writes docs/COVERAGE.md where there is nothing of that
 
-A branch is one way out of an `if`, `while`, `match` or `let .. else` of the crates that a controller links, and of those that the bench adds. A
+A branch is one way out of an `if`, `while`, `match` or `let .. else` of the crates that a controller links, and of those that lists and the bench add. A
 join is a `&` or `|` of two booleans, which the code computes whole; of it three ways are asked for, so that each side is seen to decide by itself.
-Run are, with counters: the random scripts of tests/random_scripts.py, examples/, examples/host, tests/edges, the scripts of tests/broken.py, and the programs
-with their own input. Each must print what the independent program prints, or its `stdout`; in the random scripts the counters of three functions are
-held to the kinds, notes and SOUT bits printed.
+Run are, with counters: the random scripts of tests/random_scripts.py and, one event a call, those of tests/steps.py, examples/, examples/host, tests/edges, the scripts of tests/broken.py, and the programs
+with their own input. Each must print what the independent program prints, or its `stdout`; in the random scripts the counters of two functions are
+held to the kinds and SOUT bits printed.
 
 Each branch and way never taken, and each function never called, stands in never.tsv: function, mark, test, branch, reason. The mark is of the
 function's code, so that a reason is read again when the function changes. Exit status 1 where a branch has neither run nor reason, or a reason no
@@ -30,9 +30,9 @@ from source import functions
 sys.path.insert(0, str(ROOT / "tests/model"))
 from pair import built_model, joined  # noqa: E402
 
-CRATES = LINKED + ["script", "playing"]
+CRATES = LINKED + ["script", "listing", "pouring", "night_parts", "whole_night", "playing"]
 GROUPS = ("random", "examples", "edges", "refusals", "others")
-PROGRAMS = {"refusals": "refusals", "numbers_main": "others", "crc16_main": "others", "command_main": "others", "speed": "others"}
+PROGRAMS = {"refusals": "refusals", "numbers_main": "others", "crc16_main": "others", "command_main": "others", "speed": "others", "lists_main": "others"}
 NEVER = ROOT / "tests/coverage/never.tsv"
 PAGE = ROOT / "docs/COVERAGE.md"
 BRANCH, JOIN, CALL = "branch", "join", "call"
@@ -117,6 +117,15 @@ def bench_runs():
     yield from (("edges", script) for script in gate_test("broken").SCRIPTS.values())
 
 
+def step_runs(work):
+    """Scripts of tests/steps.py, one event a call, and what the plain C program says of each."""
+    test, maker, plain = gate_test("steps"), ROOT / "tests/model/make_scripts.py", work / "plain"
+    subprocess.check_call(["gcc", "-std=c11", "-O2", "-o", plain, ROOT / "tests/speed/plain.c"])
+    for seed in range(1, test.SEEDS + 1):
+        script = subprocess.check_output([sys.executable, maker, str(seed), str(test.EVENTS)])
+        yield script, subprocess.run([plain, "1", "step"], input=script, capture_output=True, check=True).stdout
+
+
 def own_run(name):
     """A program's own input, arguments and output."""
     paths = [ROOT / "crates" / name / part for part in ("stdin", "args", "stdout")]
@@ -130,10 +139,9 @@ def alike(name, printed, wanted):
 
 
 def held(bench, counts, printed):
-    """Holds the counters of one run to what it printed: events of each kind, notes, and SOUT bits."""
+    """Holds the counters of one run to what it printed: events of each kind, looked at by the bench and by its list, and SOUT bits."""
     lines = [line.split() for line in printed.decode().splitlines()]
-    known = {("script::read", i): sum(line[0] == str(i) for line in lines) for i in range(5)}
-    known.update((("state::number", i), sum(line[2] == str(i) for line in lines)) for i in range(16))
+    known = {("script::read", i): 2 * sum(line[0] == str(i) for line in lines) for i in range(5)}
     known.update((("script::sign", i), sum(line[4] == str(1 - i) for line in lines)) for i in range(2))
     for (name, i), many in known.items():
         found = counts[name, bench.tests[name][0][0][i]]
@@ -158,6 +166,10 @@ def all_runs(work):
         counts, printed = counting.counts(program, script, arguments)
         alike(name, printed, wanted)
         met[group].update(counts)
+        for script, wanted in step_runs(work) if name == "speed" else ():
+            counts, printed = counting.counts(program, script, ["1", "step"])
+            alike("speed, one event a call,", printed, wanted)
+            met["random"].update(counts)
         shapes.update((function, (program.tests[function], program.joins[function])) for function in program.tests)
     shapes.update((function, (bench.tests[function], bench.joins[function])) for function in bench.tests)
     return met, shapes

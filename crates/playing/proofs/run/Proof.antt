@@ -1,4 +1,5 @@
 -- `playing::run` meets its contract: a turn of its loop is a group.
+use native.Mathlib.Omega.{arith}
 use lib.ListN.{length}
 use borrow.Author.Needs.{needs}
 use Rattle.playing.proofs.Groups.{Left, left-begins, to-last, to-stop, front-length, group-fits, is-group, group-space, again}
@@ -14,6 +15,14 @@ abbrev μ-loop : tie.MeasureT-loop
 mul-n : tie.Need-mul-n Inv-loop μ-loop
 mul-n c = let f = group-fits _ _ _ _ _ _ _ _ _ _ _ (c .before .before .loop .inv) _ (c .ahead .ensures) in search needs
 
+returns : tie.Need-returns Inv-loop μ-loop
+returns c =
+    let s = c .before .before in
+    let a = s .before .before .before in
+    let i = a .before in
+    to-stop _ _ _ _ _ _ _ _ _ _ _ (i .before .loop .inv) _ (a .ahead .ensures) (omega (arith, i .loop-test .taken)) (s .before .before .if1 .taken) _ _
+    (s .stop .ensures .0) (s .stop .ensures .1)
+
 loop-again : tie.Need-loop-again Inv-loop μ-loop
 loop-again c =
     let g = c .before .before .before .before .before .before .before .before in
@@ -25,7 +34,7 @@ pub run-spec : {M : Type 1} → statement M
 run-spec =
     tie.close
     (tie.spec Inv-loop μ-loop (λ c. search (needs, left-begins)) (λ c κs. search needs) mul-n (λ c κs. search needs)
-    (λ c. search needs) (λ c. search needs) (λ c. search needs) (λ c. search (needs, to-stop)) (λ c. search (needs, front-length, group-fits))
+    (λ c. search needs) (λ c. search needs) (λ c. search needs) returns (λ c. search (needs, front-length, group-fits))
     (λ c κs. search (needs, is-group, group-space)) (λ c. search (needs, group-fits)) (λ c. search (needs, group-fits)) (λ c. search needs)
     (λ c. search (needs, group-fits)) loop-again (λ c κs. search needs) (λ c. search needs) (λ c. search needs) (λ c. search needs)
     (λ c. search (needs, to-last)))
