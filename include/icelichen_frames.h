@@ -1,6 +1,6 @@
-/* Host frames for the Icelichen bridge (document 02, item 1): an order becomes the words to send, and the words that came back become STATUS
- * or data. The functions are proved (crates/icelichen_frames); link libicelichen_frames.a behind your own objects. docs/HOST-GUIDE.md 2 has
- * the bits of each command and how to use this; examples/c/call_up.c is a program.
+/* Host frames for the Icelichen bridge (document 02, items 1 and 7): an order becomes the words to send, and the words that came back become
+ * STATUS or data. The functions are proved (crates/icelichen_frames); link libicelichen_frames.a behind your own objects. docs/HOST-GUIDE.md 2
+ * has the bits of each command and how to use this; examples/c/call_up.c is a program.
  *
  * An order is a command, its fields, and its data words:
  *   command                          ends      address   count          data words
@@ -16,6 +16,16 @@
  * (A number of more than 32 bits C itself cuts: -Wconversion tells.)
  *
  * A result below 0 is a refusal, minus its number. Nothing is written then. Keep results in an int32_t.
+ *
+ * Layouts: the bridge powers up in ours or, where it stands for TI's chip, in the maker's (document 001, 7.5), which has other bits for the same
+ * orders and a CRC that a host can choose. icelichen_frame, icelichen_status and icelichen_data are for ours. The three whose names end in _in
+ * take the layout first:
+ *   ICELICHEN_OURS             our command words; CRC start 0xFFFF
+ *   ICELICHEN_MAKERS           the maker's command words; CRC start 0xFFFF: from power-up on, and while SPICTRL bit 2 (SPI_CRC_ALG) is 0
+ *   ICELICHEN_MAKERS_XMODEM    the maker's command words; CRC start 0: while SPICTRL bit 2 is 1
+ * What bit 2 says is in force from the next command on. So the frame that turns it, and the answer to that frame, still have the CRC from
+ * before, and every frame behind it has the new one, with its answer. A power-up turns it back, a soft reset leaves it. The limits of an order
+ * are the same in all three.
  *
  * Pointers: `words` and `answer` point to that many words to read, `buffer` to that many to write. The buffer lies apart from the words: over
  * each other they give a frame of other words, with a right CRC. A pointer is not NULL, also where its length is 0: give any array there.
@@ -48,8 +58,14 @@ enum icelichen_command {
     ICELICHEN_SOFTRESET_CRC = 14
 };
 
+enum icelichen_layout {
+    ICELICHEN_OURS = 0,
+    ICELICHEN_MAKERS = 1,
+    ICELICHEN_MAKERS_XMODEM = 2
+};
+
 enum icelichen_refusal {
-    ICELICHEN_OUTSIDE_LIMITS = -20, /* an order outside the limits above, or an answer of wrong length or CRC */
+    ICELICHEN_OUTSIDE_LIMITS = -20, /* an order outside the limits above, an answer of wrong length or CRC, or no layout's number */
     ICELICHEN_BUFFER_SHORT = -21    /* fewer cells than the frame has words */
 };
 
@@ -73,6 +89,17 @@ int32_t icelichen_status(uint32_t command, uint32_t ends, uint32_t address, uint
  * the order is outside its limits, or where it is no read. */
 int32_t icelichen_data(uint32_t command, uint32_t ends, uint32_t address, uint32_t count,
                        const uint16_t *answer, size_t answer_length);
+
+/* The same three in the layout given, one of enum icelichen_layout. Any other number is refused with -20, before all else. With ICELICHEN_OURS
+ * they are the three above. An answer is read in the layout of its frame. */
+int32_t icelichen_frame_in(uint32_t layout, uint32_t command, uint32_t ends, uint32_t address, uint32_t count,
+                           const uint16_t *words, size_t words_length, uint16_t *buffer, size_t buffer_length);
+
+int32_t icelichen_status_in(uint32_t layout, uint32_t command, uint32_t ends, uint32_t address, uint32_t count,
+                            const uint16_t *answer, size_t answer_length);
+
+int32_t icelichen_data_in(uint32_t layout, uint32_t command, uint32_t ends, uint32_t address, uint32_t count,
+                          const uint16_t *answer, size_t answer_length);
 
 #ifdef __cplusplus
 }

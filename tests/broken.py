@@ -21,7 +21,7 @@ GOOD = HEAD + bytes.fromhex("000001 01C000 030001")
 SCRIPTS = {
     "a head of four bytes": HEAD[:4],
     **{f"byte {i} of the head": GOOD[:i] + bytes([GOOD[i] + 1]) + GOOD[i + 1:] for i in range(len(HEAD))},
-    "a power-up of 2": GOOD + bytes.fromhex("000002 030001"),
+    "a power-up of 4": GOOD + bytes.fromhex("000004 030001"),
     "a release of 1": GOOD + bytes.fromhex("020001 030001"),
     "a tick of 2": GOOD + bytes.fromhex("030002 030001"),
     "a record cut after two bytes": GOOD + bytes.fromhex("0300"),

@@ -5,8 +5,8 @@
    byte that they print is equal. It goes through all command words that 01 allows (as many of each number as tests/command.py counts), limits,
    buffers with guards around them, answers right and wrong; what is only read ends at a page that cannot be. The driver and the other program run
    with gcc's sanitizers too, which do not see into the library.
-2. tests/frames/sent.c: the library's frame for every command word that 01 allows goes to the bench program, its notes are none of a wrong
-   frame's, and the library reads its answer as that order's. The bench program is compiled from its source without its proof
+2. tests/frames/sent.c: the library's frame for every command word that 01 allows goes to the bench program, in our layout and in the maker's by
+   either CRC (02 item 7); its notes are none of a wrong frame's, and the library reads its answer as that order's. The bench program is compiled from its source without its proof
    (tests/mutation/outside.py), and the independent program (tests/model) prints the same of each script, byte for byte.
 3. examples/c/call_up.c prints what examples/c/call_up.out says, and its frames are those of tools/frames.py.
 4. The large table of the CRC (crates/crc16_wide) is not in the library: no eight of its entries stand there in a row (02 item 5).
@@ -37,6 +37,7 @@ from pair import built_model  # noqa: E402
 
 LIBRARY = ROOT / "target/staticlib/libicelichen_frames.a"
 MOST_EVENTS = 500_000  # of a script
+LAYOUTS = {"0": "our layout", "1": "the maker's", "2": "the maker's with CRC-16/XMODEM"}  # by the header's numbers
 STRICT = ["-std=c11", "-Wall", "-Wextra", "-Werror", "-O2", f"-I{ROOT / 'include'}"]
 SANITIZED = ["-fsanitize=address,undefined", "-fno-sanitize-recover=all"]
 
@@ -84,16 +85,16 @@ def tried(work):
     print(f"c_library: {len(ours)} lines of the library and of the other program agree, with {words.removeprefix('all: ')}", flush=True)
 
 
-def sent_part(work, sent, programs, part):
+def sent_part(work, sent, programs, layout, part):
     """One part through both bridges: how many orders were judged."""
     first, last, command, _ = part
-    script = work / f"part{first}"
-    script.write_bytes(printed(sent, "script", first, last))
+    script = work / f"part{layout}-{first}"
+    script.write_bytes(printed(sent, "script", first, last, layout))
     ours, theirs = (subprocess.run([*program, *words], stdin=open(script, "rb"), capture_output=True, check=True).stdout
                     for program, words in ((programs[0], []), (programs[1], [script])))
     if ours != theirs:
-        sys.exit(f"c_library: the bench and the independent program differ on orders {first} to {last}, of command {command}")
-    judged = subprocess.run([sent, "judge", first, last], input=ours, capture_output=True)
+        sys.exit(f"c_library: the bench and the independent program differ on orders {first} to {last}, of command {command}, layout {layout}")
+    judged = subprocess.run([sent, "judge", first, last, layout], input=ours, capture_output=True)
     if judged.returncode:
         sys.exit("c_library: " + judged.stderr.decode())
     script.unlink()
@@ -106,13 +107,14 @@ def sent_all(work):
     if not outside.compiled(place, "bench"):
         sys.exit("c_library: the bench program is not compiled: " + (place / "said").read_text()[-1000:])
     programs = [*outside.runner(), place / "program"], [model]
-    parts = [line.split() for line in printed(sent, "plan", str(MOST_EVENTS)).decode().splitlines()]
-    with concurrent.futures.ThreadPoolExecutor(os.cpu_count()) as pool:
-        orders = sum(pool.map(lambda part: sent_part(work, sent, programs, part), parts))
-    if orders != int(parts[-1][1]) + 1:
-        sys.exit(f"c_library: {orders} of {int(parts[-1][1]) + 1} orders were judged")
-    events = sum(int(part[3]) for part in parts)
-    print(f"c_library: {orders} command words, {events} events of the bench program: no note of a wrong frame, every answer read", flush=True)
+    for layout, name in LAYOUTS.items():
+        parts = [line.split() for line in printed(sent, "plan", str(MOST_EVENTS), layout).decode().splitlines()]
+        with concurrent.futures.ThreadPoolExecutor(os.cpu_count()) as pool:
+            orders = sum(pool.map(lambda part: sent_part(work, sent, programs, layout, part), parts))
+        if orders != int(parts[-1][1]) + 1:
+            sys.exit(f"c_library: {orders} of {int(parts[-1][1]) + 1} orders were judged")
+        events = sum(int(part[3]) for part in parts)
+        print(f"c_library: {name}: {orders} command words, {events} events of the bench program: no note of a wrong frame, every answer read", flush=True)
 
 
 def example(work):

@@ -1,7 +1,9 @@
 #!/usr/bin/env python3
-"""The command words by another hand: what `command_main` must print, made from 01's table (Frames) and 02 item 4's address limit alone.
+"""The command words by another hand, in both layouts: what `command_main` must print, made from 01's table (Frames), 02 item 4's address limit
+and document 001's table 7-2 (02 item 7) alone.
 
-Compares with crates/command_main/stdout byte for byte; --write writes that file. The digest is described in
+Our layout first: for each command number a digest of its 4,096 words, then how many words there are of each kind. Behind a line `maker's` the
+same for the maker's layout. Compares with crates/command_main/stdout byte for byte; --write writes that file. The digest is described in
 crates/command_main/src/main.rt.
 """
 import sys
@@ -40,6 +42,28 @@ def fields(name, word):
     return {"REG_WR": "register write", "REG_RD": "register read"}[name], {"address": address, "count": count}
 
 
+def makers_fields(name, word):
+    """The same by the row of document 001's table 7-2. Its fixed fields have the value that stands there; a length means one word more, but for
+    opt_data_length (7.5.3). FWD_WR_CRC is no FWD_WR here: its length has nine bits."""
+    plain = name.removesuffix("_CRC")
+    if name == "FWD_WR_CRC":
+        return None if bits(word, 11, 9) else ("forward", {"words": bits(word, 8, 0) + 1, "ends": 0, "reads": 0})
+    if plain == "FWD_WR":
+        return "forward", {"words": bits(word, 11, 0) + 1, "ends": 0, "reads": 0}
+    if plain == "FWD_WR_END":
+        return "forward", {"words": bits(word, 11, 7), "ends": bits(word, 6, 0), "reads": 0}
+    if plain == "FWD_RD_END":
+        return "forward", {"words": bits(word, 11, 7) + 1, "ends": bits(word, 6, 0), "reads": 1}
+    if plain == "DATA_RD":
+        return None if bits(word, 11, 8) else ("data read", {"words": bits(word, 7, 0) + 1})
+    if plain == "SOFTRESET":
+        return ("soft reset", {}) if bits(word, 11, 0) == 0x1E1 else None
+    address, count = bits(word, 9, 6), bits(word, 3, 0) + 1
+    if bits(word, 11, 10) or bits(word, 5, 4) or address + count > 12:
+        return None
+    return {"REG_WR": "register write", "REG_RD": "register read"}[plain], {"address": address, "count": count}
+
+
 def decode(word):
     """A word's kind, whether its command is named _CRC, and its fields."""
     if word == 0xFFFF:
@@ -51,6 +75,15 @@ def decode(word):
     if found is None or name == "FWD_WR_CRC" and found[1]["words"] > 512:
         return MALFORMED
     return found[0], name.endswith("_CRC"), found[1]
+
+
+def decode_makers(word):
+    """The same of a word in the maker's layout."""
+    if word == 0xFFFF:
+        return "filler", False, {}
+    name = NAMES.get(bits(word, 15, 12))
+    found = makers_fields(name, word) if name else None
+    return (found[0], name.endswith("_CRC"), found[1]) if found else MALFORMED
 
 
 def label(kind, crc, values):
@@ -69,12 +102,13 @@ def labels():
     yield "soft reset"
 
 
-def lines():
+def lines(read):
+    """What is printed of one layout, whose words `read` decodes."""
     counts = dict.fromkeys(labels(), 0)
     for number in range(16):
         digest = 0
         for low in range(4096):
-            kind, crc, values = decode(number << 12 | low)
+            kind, crc, values = read(number << 12 | low)
             counts[label(kind, crc, values)] += 1
             # a soft reset has one form only, so it has no field that says _CRC
             named = [] if kind in ALONE else [int(crc)]
@@ -86,7 +120,7 @@ def lines():
 
 
 def main():
-    ours = [line.encode() for line in lines()]
+    ours = [line.encode() for line in (*lines(decode), "maker's\n", *lines(decode_makers))]
     if "--write" in sys.argv[1:]:
         EXPECTED.write_bytes(b"".join(ours))
         return 0

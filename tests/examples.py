@@ -47,16 +47,26 @@ def fronts(states):
     return b"\n".join(line for line in lines if not line.startswith(b"start")) + b"\n"
 
 
+def changes(before, after):
+    """The columns of one state that are not those of another, as `states` prints them."""
+    return ["%d=%d" % (column, after[name]) for column, name in enumerate(explain.COLUMNS) if after[name] != before[name]]
+
+
 def explained(states):
-    """Each example's words, as the tool says them of it alone: its first event is a power-up, which leaves the start."""
+    """Each example's words, as the tool says them of it alone: its first event is a power-up, whose state does not depend on what was before."""
     start, *lines = states.decode().splitlines()
+    began = state = explain.changed(dict.fromkeys(explain.COLUMNS, 0), start.split()[1:])
     for text in EXAMPLES:
         events = (TOP / "examples/expected" / (text.stem + ".out")).read_text().count("\n")
         first, *rest = lines[:events]
         lines = lines[events:]
-        if not first.startswith("0 0001 "):
-            sys.exit("examples: %s does not begin with `power good`" % text.name)
-        told = explain.told([start, " ".join(first.split()[:5]), *rest])
+        if not first.startswith(("0 0001 ", "0 0003 ")):
+            sys.exit("examples: %s does not begin with `power good` or `power good makers`" % text.name)
+        state = explain.changed(state, first.split()[5:])
+        alone = " ".join([*first.split()[:5], *changes(began, state)])
+        for line in rest:
+            state = explain.changed(state, line.split()[5:])
+        told = explain.told([start, alone, *rest])
         yield TOP / "examples/explained" / (text.stem + ".out"), "".join(line + "\n" for line in told).encode()
 
 
@@ -76,12 +86,13 @@ def wrong(stdin, stdout):
         if script(bad) is not None:
             yield "a bad text was taken: %r" % bad
     states = (STATES / "stdout").read_bytes()
-    held = [(BENCH / "stdin", stdin), (BENCH / "stdout", stdout), (STATES / "stdin", stdin), *explained(states)]
+    same = fronts(states) == stdout
+    if not same:
+        yield "crates/states/stdout has other events than the bench's"
+    held = [(BENCH / "stdin", stdin), (BENCH / "stdout", stdout), (STATES / "stdin", stdin), *(explained(states) if same else ())]
     for place, want in held:
         if not place.exists() or place.read_bytes() != want:
             yield "%s is not what examples/ gives" % place.relative_to(TOP)
-    if fronts(states) != stdout:
-        yield "crates/states/stdout has other events than the bench's"
     known = {text.stem for text in EXAMPLES}
     for out in TOP.glob("examples/ex*/*.out"):
         if out.stem not in known:

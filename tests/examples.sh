@@ -38,7 +38,9 @@ for out in examples/expected/*.out; do
   [ -e "examples/$(basename "$out" .out).txt" ] || fail "$out has no text"
 done
 
-refused 'power good\nword 20\n' '-:2: expected four hex digits, found `20`'
-refused 'tick 2\nrelease\n' '-:1: expected `0` or `1`, found `2`'
-refused '# too late\n\nclock 65536\n' '-:3: expected one decimal number from 0 to 65535, found `65536`'
+refused 'power good\nword 20\n' 'standard input:2: expected four hex digits, found `20`'
+refused 'tick 2\nrelease\n' 'standard input:1: expected `0` or `1`, found `2`'
+refused '# too late\n\nclock 65536\n' 'standard input:3: expected one decimal number from 0 to 65535, found `65536`'
+refused 'power makers\n' 'standard input:1: expected `good`, `bad`, `good makers` or `bad makers`, found `makers`'
+refused 'power good makers\npower good\nframe makers SOFTRESET_CRC\n' 'standard input:3: expected the layout in a `power` line alone, found `makers`'
 echo "examples: $agree agree"

@@ -1,12 +1,12 @@
 #!/usr/bin/env python3
-"""Holds the program `frames_main` and tools/frame to the lines of text that they take (02 item 1).
+"""Holds the program `frames_main` and tools/frame to the lines of text that they take (02 items 1 and 7).
 
 frames_text.py          `frames_text: N lines agree, M texts, K calls`, or what differs and exit status 1
 frames_text.py --write  writes crates/frames_main/stdout, which `rt ci` compares with what the program prints of crates/frames_main/stdin
 
-Frames, answers and reasons are made here from 01's table and the standard library's CRC-CCITT, by nothing of ours. The program is compiled from
-its source without its proof (tests/mutation/outside.py), and with the compiler's assumptions checked. The tools' own table (tools/frames.py) is held
-to the same lines.
+Frames, answers and reasons are made here from 01's table, the maker's (001 table 7-2) and the standard library's CRC-CCITT, by nothing of ours. The
+program is compiled from its source without its proof (tests/mutation/outside.py), and with the compiler's assumptions checked. The tools' own table
+(tools/frames.py) is held to the same lines.
 """
 import binascii
 import os
@@ -52,30 +52,30 @@ class Wrong(Exception):
     """A line is wrong: the reason."""
 
 
-def crc(words):
-    return binascii.crc_hqx(b"".join(word.to_bytes(2, "big") for word in words), 0xFFFF)
+def crc(words, layout=""):
+    """From 0xFFFF (01 Frames; 001 7.5.3, "the default algorithm"), or by XMODEM from 0."""
+    return binascii.crc_hqx(b"".join(word.to_bytes(2, "big") for word in words), 0 if layout == "xmodem" else 0xFFFF)
 
 
 def hexed(words):
     return " ".join("%04X" % word for word in words)
 
 
-def low_bits(number, field, n):
-    """The low 12 bits of the command word with n data words, or None outside the limits (01 Frames)."""
+def low_bits(number, field, n, layout=""):
+    """The low 12 bits of the command word with n data words, or None outside the limits (01 Frames; 001 table 7-2)."""
     ends, address, count = (field.get(name, 0) for name in ("ends", "address", "count"))
     if number in (2, 3):
         return n - 1 if 1 <= n <= (512 if number == 2 else MOST_WORDS) else None
-    if number in (4, 5):
-        return ends << 5 | n if ends <= 127 and n <= 31 else None
-    if number in (6, 7):
-        return ends << 5 | n - 1 if ends <= 127 and 1 <= n <= 32 else None
+    if number in (4, 5, 6, 7):
+        size = n if number < 6 else n - 1
+        return (size << 7 | ends if layout else ends << 5 | size) if ends <= 127 and 0 <= size <= 31 else None
     if number in (8, 9):
         return count - 1 if 1 <= count <= 256 and n == 0 else None
-    if number in (10, 11):
-        return n - 1 << 8 | address if n >= 1 and address + n <= REGISTERS else None
-    if number in (12, 13):
-        return count - 1 << 8 | address if count >= 1 and address + count <= REGISTERS and n == 0 else None
-    return 0 if n == 0 else None
+    if number in (10, 11, 12, 13):
+        size = n if number < 12 else count
+        right = size >= 1 and address + size <= REGISTERS and (number < 12 or n == 0)
+        return (address << 6 | size - 1 if layout else size - 1 << 8 | address) if right else None
+    return (0x1E1 if layout else 0) if n == 0 else None
 
 
 def cut(part):
@@ -109,22 +109,22 @@ def word_of(item, words):
     words.append(int(item, 16))
 
 
-def frame(row, field, words):
-    low = low_bits(row[0], field, len(words))
+def frame(row, field, words, layout):
+    low = low_bits(row[0], field, len(words), layout)
     if low is None:
         count = "1 word" if len(words) == 1 else "%d words" % len(words)
         raise Wrong("expected %s, found %s with these fields: refusal 20" % (row[2], count))
     whole = [row[0] << 12 | low, *words]
-    return hexed([*whole, crc(whole)])
+    return hexed([*whole, crc(whole, layout)])
 
 
-def answer(row, field, words, last):
+def answer(row, field, words, layout, last):
     if all(low_bits(row[0], field, n) is None for n in range(33)):
         raise Wrong("expected %s, found an order outside these limits: refusal 20" % row[2])
     due = field["count"] + 1 if "count" in row[1] else 2
     if len(words) != due:
         raise Wrong("expected an answer of %d words, and no data words of the order; found %d: refusal 20" % (due, len(words)))
-    if crc(words[:-1]) != words[-1]:
+    if crc(words[:-1], layout) != words[-1]:
         raise Wrong(found("expected the CRC of the words before it", last) + ": refusal 20")
     return ("data " if "count" in row[1] else "STATUS ") + hexed(words[:-1])
 
@@ -136,12 +136,14 @@ def judged(line):
     if not items:
         return None
     answers = items[0][0] == b"answer"
-    name, *rest = items[answers:] or [None]
+    items = items[answers:]
+    layout = items[0][0].decode() if items and items[0][0] in (b"makers", b"xmodem") else ""
+    name, *rest = items[bool(layout):] or [None]
     row = ROWS.get(name[0].decode("latin-1")) if name else None
     if not name:
-        raise Wrong("expected a command's name behind answer, found nothing")
+        raise Wrong("expected a command's name behind answer, makers or xmodem, found nothing")
     if not row:
-        raise Wrong(found("expected a command's name in capitals, such as FWD_WR_CRC, or answer and a name", name[0]))
+        raise Wrong(found("expected a command's name in capitals, such as FWD_WR_CRC, or one behind answer, makers or xmodem", name[0]))
     field, words, end = {}, [], name.end()
     try:
         for item in rest:
@@ -154,7 +156,7 @@ def judged(line):
                 end = item.end()
         for lacking in (one for one in row[1] if one not in field):
             raise Wrong("expected the field %s=, found no such field" % lacking)
-        return answer(row, field, words, rest[-1][0] if rest else b"") if answers else frame(row, field, words)
+        return answer(row, field, words, layout, rest[-1][0] if rest else b"") if answers else frame(row, field, words, layout)
     except Wrong as wrong:
         raise Wrong("%s: %s" % (cut(line[name.start():end]), wrong)) from None
 
@@ -192,10 +194,34 @@ TEXT = [  # text, what standard error has of it; "" where all is right
     (b"\n" * MOST_TEXT, ""),
     (b"\n" * (MOST_TEXT + 1), "expected at most 1 MiB (1048576 bytes) of text, found more\n"),
     (b"FWD_WR " + ALL + b" 1234", "line 1: FWD_WR: expected at most 4096 words, which is the most of any order, found one more, `1234`\n"),
-    (b"fwd_wr AAF0", "line 1: expected a command's name in capitals, such as FWD_WR_CRC, or answer and a name, found `fwd_wr`\n"),
+    (b"makers FWD_WR_END ends=3 AAF0", ""),
+    (b"xmodem SOFTRESET_CRC\nmakers SOFTRESET_CRC\r\nSOFTRESET_CRC", ""),
+    (b"\tmakers  REG_WR_CRC\taddress=7 AAF0 # x", ""),
+    (b"answer makers FWD_WR 0403 %04X" % crc([0x0403]), ""),
+    (b"answer xmodem REG_RD address=0 count=1 ED99 %04X" % crc([0xED99], "xmodem"), ""),
+    (b"answer \txmodem\tFWD_WR 0403 %04X" % crc([0x0403], "xmodem"), ""),
+    (b"fwd_wr AAF0",
+     "line 1: expected a command's name in capitals, such as FWD_WR_CRC, or one behind answer, makers or xmodem, found `fwd_wr`\n"),
     (b"FWD_W AAF0", "found `FWD_W`\n"),
     (b"FWD_WR_ AAF0", "found `FWD_WR_`\n"),
-    (b"answer\n", "line 1: expected a command's name behind answer, found nothing\n"),
+    (b"answer\n", "line 1: expected a command's name behind answer, makers or xmodem, found nothing\n"),
+    (b"makers", "line 1: expected a command's name behind answer, makers or xmodem, found nothing\n"),
+    (b"answer xmodem # x", "line 1: expected a command's name behind answer, makers or xmodem, found nothing\n"),
+    (b"makers answer FWD_WR 0403 0000", "found `answer`\n"),
+    (b"makers xmodem SOFTRESET_CRC", "found `xmodem`\n"),
+    (b"xmodem makers SOFTRESET_CRC", "found `makers`\n"),
+    (b"Makers SOFTRESET_CRC", "found `Makers`\n"),
+    (b"makersSOFTRESET_CRC", "found `makersSOFTRESET_CRC`\n"),
+    (b"maker SOFTRESET_CRC", "found `maker`\n"),
+    (b"ours SOFTRESET_CRC", "found `ours`\n"),
+    (b"SOFTRESET_CRC makers", "line 1: SOFTRESET_CRC: expected four hex digits, found `makers`\n"),
+    (b"FWD_WR AAF0\nmakers FWD_WR_END ends=128",
+     "line 2: FWD_WR_END ends=128: expected ends 0 to 127, 0 to 31 words, found 0 words with these fields: refusal 20\n"),
+    (b"makers REG_WR address=11 AAF0 AAF0", "line 1: REG_WR address=11: expected address 0 to 11,"),
+    (b"xmodem SOFTRESET_CRC 01E1", "line 1: SOFTRESET_CRC: expected no words, found 1 word with these fields: refusal 20\n"),
+    (b"answer xmodem FWD_WR 0403 %04X" % crc([0x0403]), "line 1: FWD_WR: expected the CRC of the words before it, found `E1A8`: refusal 20\n"),
+    (b"answer makers FWD_WR 0403 %04X" % crc([0x0403], "xmodem"), "line 1: FWD_WR: expected the CRC of the words before it, found "),
+    (b"answer FWD_WR 0403 %04X" % crc([0x0403], "xmodem"), "line 1: FWD_WR: expected the CRC of the words before it, found "),
     (b"answer answer FWD_WR", "found `answer`\n"),
     (b"\0\n", "found `?`\n"),
     (b"\xef\xbb\xbfFWD_WR AAF0", "found `???FWD_WR`\n"),
@@ -235,17 +261,26 @@ TEXT = [  # text, what standard error has of it; "" where all is right
 ]
 
 
-def at_limits():
+def at_limits(layout=""):
     """Lines just inside and just outside each limit of each row."""
+    words = layout and layout + " "
     for name, (number, fields, _) in ROWS.items():
         edges = {"ends": (0, 127, 128, 65535), "address": (0, 1, 10, 11, 12, 65535), "count": (0, 1, 2, 10, 11, 12, 13, 256, 257, 65535)}
-        told = [""]
+        told = [words + name]
         for field in fields:
             told = ["%s %s=%d" % (before, field, value) for before in told for value in edges[field]]
         counts = (0, 1, 2, 511, 512, 513, 4095, 4096) if number in (2, 3) else (0, 1, 2, 10, 11, 12, 13, 31, 32, 33)
-        for fields_told in told:
-            yield from (("%s%s %s" % (name, fields_told, some(n))).encode() for n in counts)
-            yield from (("answer %s%s %s" % (name, fields_told, hexed([*range(n), crc(range(n))]))).encode() for n in (0, 1, 2, 12, 256, 257))
+        for order in told:
+            yield from (("%s %s" % (order, some(n))).encode() for n in counts)
+            yield from (("answer %s %s" % (order, hexed([*range(n), crc(range(n), layout)]))).encode() for n in (0, 1, 2, 12, 256, 257))
+
+
+def in_makers(layout):
+    """The lines at the limits in the maker's words: a text of those that are right, one of those that are not."""
+    lines = list(at_limits(layout))
+    right = [line for line in lines if not expected(line)[1]]
+    yield b"\n".join(right)
+    yield b"\n".join(line for line in lines if line not in right)[:MOST_TEXT]
 
 
 def random_line(draw):
@@ -256,10 +291,12 @@ def random_line(draw):
     items = ["%s=%d" % pair for pair in field.items()]
     draw.shuffle(items)
     items += ["%04x" % draw.randrange(65536) for _ in range(draw.choice([0, 1, 2, 3, 12, 31, 32, 33]) if row[0] not in (8, 9, 12, 13, 14) else 0)]
+    layout = draw.choice(["", "", "makers", "xmodem"])
+    name = layout + " " * bool(layout) + name
     if draw.random() < 0.3:
         n = field.get("count", 1)
         words = [draw.randrange(65536) for _ in range(n)]
-        name, items = "answer " + name, items[:len(field)] + hexed([*words, crc(words) ^ (draw.random() < 0.1)]).split()
+        name, items = "answer " + name, items[:len(field)] + hexed([*words, crc(words, layout) ^ (draw.random() < 0.1)]).split()
     if draw.random() < 0.1:
         items.insert(draw.randrange(len(items) + 1), draw.choice(["ends=3", "count=x", "12", "12345", "ends", "address=70000", "\x7f", "=", "zzzz"]))
     gap = draw.choice([" ", " ", "\t", "  "])
@@ -285,13 +322,23 @@ def run(program, text):
     return done.stdout.decode("latin-1"), done.stderr.decode("latin-1"), done.returncode
 
 
+def texts():
+    """A text of one line each for all lines at the limits."""
+    yield from (text for text, _ in TEXT)
+    yield from at_limits()
+    yield b"\n".join(at_limits())[:MOST_TEXT]
+    yield from in_makers("makers")
+    yield from in_makers("xmodem")
+    yield from random_texts()
+
+
 def differences(program):
-    """What the program does otherwise; a text of one line each for all lines at the limits."""
+    """What the program does otherwise."""
     for text, told in TEXT:
         printed, said = expected(text)
         if told not in said or bool(told) != bool(said):
             yield "this test expects %r of %r, and says %r" % (told, text[:60], said)
-    for text in [*(text for text, _ in TEXT), *at_limits(), *random_texts(), b"\n".join(at_limits())[:MOST_TEXT]]:
+    for text in texts():
         printed, said = expected(text)
         out, err, status = run(program, text)
         if (out, err, status) != (printed, said, 0):
@@ -300,7 +347,7 @@ def differences(program):
 
 def table_differences():
     """Orders that tools/frames.py, which the texts of the bench use, takes otherwise."""
-    for line in [line for line in at_limits() if not line.startswith(b"answer")]:
+    for line in [line for layout in ("", "makers", "xmodem") for line in at_limits(layout) if not line.startswith(b"answer")]:
         try:
             made = hexed(frames.order(line.decode().split()))
         except Refused:
@@ -313,6 +360,12 @@ CALLS = [  # arguments, standard input, status, standard output, standard error
     (["FWD_WR_CRC", "AAF0", "FE0B"], b"", 0, "2001 AAF0 FE0B 7163\n", ""),
     (["answer", "FWD_WR_CRC", "0400", "D1CB"], b"", 0, "STATUS 0400\n", ""),
     (["FWD_WR_END ends=3", " AAF0\n"], b"", 0, "5061 AAF0 %04X\n" % crc([0x5061, 0xAAF0]), ""),
+    (["makers", "FWD_WR_END", "ends=3", "AAF0"], b"", 0, "5083 AAF0 %04X\n" % crc([0x5083, 0xAAF0]), ""),
+    (["xmodem SOFTRESET_CRC"], b"", 0, "E1E1 CE8C\n", ""),
+    (["answer", "xmodem", "REG_RD", "address=0", "count=1", "ED99", "747E"], b"", 0, "data ED99\n", ""),
+    (["makers"], b"", 1, "", "tools/frame: expected a command's name behind answer, makers or xmodem, found nothing\n"),
+    (["xmodem", "fwd_wr"], b"", 1, "",
+     "tools/frame: expected a command's name in capitals, such as FWD_WR_CRC, or one behind answer, makers or xmodem, found `fwd_wr`\n"),
     (["good.txt"], b"", 0, "E000 %04X\n" % crc([0xE000]), ""),
     (["--", "FWD_WR"], b"", 0, "E000 %04X\n" % crc([0xE000]), ""),
     ([], b"SOFTRESET_CRC", 0, "E000 %04X\n" % crc([0xE000]), ""),
@@ -380,23 +433,32 @@ def tool_differences(work):
 
 
 def not_tried(text):
-    """Which command is not at both ends of its limits in the crate's stdin, and of which no answer is read."""
-    orders, answers = set(), set()
+    """Which command is not at both ends of its limits in the crate's stdin, of which no answer is read, and what lacks in the maker's words."""
+    orders, answers, makers = set(), set(), set()
     for line in filter(None, (line.partition(b"#")[0].decode().split() for line in text.split(b"\n"))):
-        name, *items = line[1:] if line[0] == "answer" else line
+        answers_it, line = line[0] == "answer", line[line[0] == "answer":]
+        if line[0] in ("makers", "xmodem"):
+            makers.add((answers_it, *line[:2]))
+            continue
+        name, *items = line
         words = sum("=" not in item for item in items)
         field = tuple(sorted((item.split("=")[0], int(item.split("=")[1])) for item in items if "=" in item))
-        (answers if line[0] == "answer" else orders).add((name, field, 0 if line[0] == "answer" else words))
+        (answers if answers_it else orders).add((name, field, 0 if answers_it else words))
     for name, (number, fields, _) in ROWS.items():
         tried = [(dict(field), n) for one, field, n in orders if one == name]
         if not any(one == name for one, *_ in answers):
             yield "no answer to " + name
+        if (False, "makers", name) not in makers:
+            yield "makers " + name
         for field in fields:
             highest = max(value for value in range(300) if any(low_bits(number, {**other, field: value}, n) is not None for other, n in tried))
             lowest = min(value for value in range(300) if any(low_bits(number, {**other, field: value}, n) is not None for other, n in tried))
             yield from ("%s %s=%d" % (name, field, value) for value in (lowest, highest) if not any(other[field] == value for other, _ in tried))
         counts = [n for n in range(MOST_WORDS + 1) if any(low_bits(number, other, n) is not None for other, _ in tried)]
         yield from ("%s with %d words" % (name, n) for n in (counts[0], counts[-1]) if not any(n == one for _, one in tried))
+    for answer_to, layout in ((False, "xmodem"), (True, "makers"), (True, "xmodem")):
+        if (answer_to, layout) not in {each[:2] for each in makers}:
+            yield "%s%s" % ("answer " * answer_to, layout)
 
 
 def wrong(work, text):
@@ -431,7 +493,7 @@ def main():
         print(*bad[:20], sep="\n")
         sys.exit("frames_text: %d not as they should be" % len(bad))
     print("frames_text: %d lines agree, %d texts, %d calls" % (
-        len((CRATE / "stdout").read_text().splitlines()), len(TEXT) + len(list(at_limits())) + TEXTS + 1, len(CALLS) + 6))
+        len((CRATE / "stdout").read_text().splitlines()), len(list(texts())), len(CALLS) + 6))
 
 
 if __name__ == "__main__":

@@ -5,7 +5,8 @@ guide.py    `guide: N frames of the guide stand in its T texts, M orders give th
 
 Every [name] of the guide is a text and every text is named; every frame with a CRC word in the guide has the right one and stands in a run;
 where the guide's table of commands gives an answer, that run has it; behind every order in the guide stands its frame (tools/frames.py), with the CRC
-word or without; on all texts together the bench program and the independent program (model/) print the same.
+word or without; the frames of its tables in the maker's words are those of the orders, and run without a note behind a maker's power-up; on all texts
+together the bench program and the independent program (model/) print the same.
 """
 import pathlib
 import re
@@ -17,14 +18,16 @@ TESTS = pathlib.Path(__file__).resolve().parent
 ROOT = TESTS.parent
 sys.dont_write_bytecode = True
 sys.path[:0] = [str(TESTS / "model"), str(ROOT / "tools")]
-from frames import ROWS, order  # noqa: E402
-from make_scripts import WORD, crc16  # noqa: E402
+from frames import MAKERS, ROWS, XMODEM, order  # noqa: E402
+from make_scripts import RELEASE, WORD, crc16  # noqa: E402
 from pair import EVENTS, HEAD, POWER_UP, RECORD, built_model, difference  # noqa: E402
 from refused import Refused  # noqa: E402
 
 GUIDE = (ROOT / "docs/HOST-GUIDE.md").read_text()
 HEX = r"(?:[0-9A-F]{4} ?)+"
 ORDER = rf"`((?:{'|'.join(ROWS)})(?: [a-z]+=\d+)*(?: [0-9A-F]{{4}})*)`"
+MAKERS_UP = b"\x00\x00\x03"
+CHOOSE_XMODEM = f"{MAKERS} REG_WR_CRC address=1 00A4"
 
 
 def words(text):
@@ -48,7 +51,44 @@ def wrong_orders():
             yield f"{text}: {refused}"
             continue
         if words(f"{sent} {crc}") not in (made, made[:-1]):
-            yield f"{text}: its frame is {' '.join(f'{word:04X}' for word in made)}, found {sent} {crc}"
+            yield f"{text}: its frame is {shown(made)}, found {sent} {crc}"
+
+
+def makers_tables():
+    """Frames of the guide's tables in the maker's words: an order or none, our frame or none, the maker's, and the maker's by CRC-16/XMODEM."""
+    for text, ours, makers, crc in re.findall(rf"{ORDER} \| `({HEX})` \| `({HEX})` \| `([0-9A-F]{{4}})` \|", GUIDE):
+        yield text, words(ours), words(makers), words(makers)[:-1] + words(crc)
+    for makers, xmodem in re.findall(rf"^\| [^|]+ \| `({HEX})` \| `({HEX})` \|$", GUIDE, re.M):
+        yield None, None, words(makers), words(xmodem)
+
+
+def shown(*sent):
+    return ", ".join(" ".join(f"{word:04X}" for word in frame) for frame in sent)
+
+
+def is_noted(model, *sent):
+    """Whether these frames, each then released, meet a note behind a maker's power-up."""
+    script = HEAD + MAKERS_UP
+    for frame in sent:
+        script += b"".join(bytes([WORD]) + word.to_bytes(2, "big") for word in frame) + bytes([RELEASE, 0, 0])
+    lines = subprocess.run([model], input=script, capture_output=True, check=True).stdout.decode().splitlines()
+    return any(line.split()[2] != "0" for line in lines)
+
+
+def wrong_makers(model):
+    """What of the tables in the maker's words is not as it should be. An order that is refused is told by `wrong_orders`."""
+    rows = list(makers_tables())
+    for text, *found in rows:
+        try:
+            made = [order([*way, *text.split()]) for way in ([], [MAKERS], [XMODEM])] if text else found
+        except Refused:
+            continue
+        if found != made:
+            yield f"{text}: its frames in both layouts are {shown(*made)}, found {shown(*found)}"
+        if is_noted(model, found[1]) or is_noted(model, order(CHOOSE_XMODEM.split()), found[2]):
+            yield f"of {shown(*found[1:])} one meets a note in the maker's layout"
+    if len({text.split()[0] for text, *_ in rows if text}) != len(ROWS):
+        yield "the guide's table of both layouts has not all commands"
 
 
 def scripts():
@@ -72,16 +112,16 @@ def stands(frame, answer, run):
 
 def wrong(model, texts):
     yield from wrong_orders()
+    yield from wrong_makers(model)
     named = set(re.findall(r"\[([a-z][a-z-]+)\]", GUIDE))
     yield from (f"no text: {name}" for name in named - texts.keys())
     yield from (f"not named in the guide: {name}" for name in texts.keys() - named)
     runs = [heard(subprocess.run([model], input=HEAD + script, capture_output=True, check=True).stdout.decode()) for script in texts.values()]
     for frame, answer in frames():
-        shown = " ".join(f"{word:04X}" for word in frame)
         if crc16(frame[:-1]) != frame[-1]:
-            yield f"wrong CRC word: {shown}"
+            yield f"wrong CRC word: {shown(frame)}"
         elif not any(stands(frame, answer, run) for run in runs):
-            yield f"in no run: {shown}, answer {answer}"
+            yield f"in no run: {shown(frame)}, answer {answer}"
 
 
 def batches(texts):

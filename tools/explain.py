@@ -15,7 +15,7 @@ import sys
 sys.dont_write_bytecode = True
 sys.path.insert(0, str(pathlib.Path(__file__).resolve().parent))
 from ends import ended  # noqa: E402
-from frames import NAMES  # noqa: E402
+from frames import NAMES, crc  # noqa: E402
 
 TABLE = pathlib.Path(__file__).resolve().parent.parent / "crates/refusals/stdin"
 POWER, WORD, RELEASE, TICK, CLOCK = range(5)
@@ -32,6 +32,8 @@ BITS = {
     "TXFFST": {15: "TXFFOVF", 14: "TXFFUVF"},
     "RXFFST": {15: "RXFFOVF", 14: "RXFFUVF"},
 }
+ALGORITHMS = ("CCITT-FALSE", "CRC-16/XMODEM")  # of the maker's layout, by SPICTRL's bit 2
+WATCHDOG = ("40 ms", "20 ms", "10 ms", "off")  # by its bits 13..12
 MODES = ("NORMAL", "INIT", "FAILSAFE")
 READY = ("words ready in RX", "nothing ready in RX")  # by DRDY
 STATES = {0: "NORMAL", 1: "INIT", 3: "FAILSAFE"}  # as bits 5..4 of STATUS say it
@@ -56,6 +58,7 @@ NOTES = {
     14: "RX is full: the word read back is dropped",
     15: "RX is empty: this FFFF is no word of the line",
 }
+MAKERS_NOTES = {**NOTES, 3: "no command word of the maker's layout: all is dropped until chip select is released"}
 
 
 CUT = "cut"  # beside the columns: the command under way met note 13
@@ -91,6 +94,10 @@ def many(count, what):
 
 def is_in(state, column, name):
     return state[column] == NUMBER[name]
+
+
+def is_makers(state):
+    return is_in(state, "layout", "makers")
 
 
 # ---- frames ----
@@ -138,11 +145,32 @@ def bad_word(value, state):
     return "BADWORD %04X (%s)" % (value, "the bad check bit came on word %d" % value if state["check_bit"] else "CHECK_BIT is down")
 
 
+def control(value, state):
+    """The fields of SPICTRL in the maker's layout (001 table 7-6), or nothing in ours. An algorithm is for frames that open from then on."""
+    if not is_makers(state):
+        return ""
+    later = " from the next frame on" if (value >> 2 & 1) != state["xmodem"] else ""
+    said = ["watchdog " + WATCHDOG[value >> 12 & 3], ALGORITHMS[value >> 2 & 1] + later, "timeout code %d without effect" % (value >> 4 & 15)]
+    return " (%s)" % ", ".join(said + ["SDO bit without effect"] * (value >> 1 & 1) + ["no STATUS answered"] * (value & 1))
+
+
+def register(name, value, state):
+    """A register's value as it is answered."""
+    if name == "BADWORD":
+        return bad_word(value, state)
+    return value_of(name, value) + (control(value, state) if name == "SPICTRL" else "")
+
+
+def by(state):
+    """The frame's algorithm, where it is not the one of power-up."""
+    return " by " + ALGORITHMS[1] if state["xmodem"] else ""
+
+
 def opened(event, before, after):
     if event.value == FILLER:
         yield "filler, outside a frame"
     elif is_in(after, "phase", "collecting"):
-        yield "frame opened: " + command(event.value, after)
+        yield "frame opened: " + command(event.value, after) + (", CRC" + by(after) if after["xmodem"] else "")
 
 
 def written(first, count, note, after):
@@ -151,7 +179,7 @@ def written(first, count, note, after):
         if name in READ_ONLY:
             yield "%s cannot be written" % name
         elif name in HELD and not (name == "CCSICTRL" and note == 10):
-            yield "%s is %04X" % (name, after[HELD[name]])
+            yield "%s is %04X%s" % (name, after[HELD[name]], control(after["spictrl"], after) if name == "SPICTRL" else "")
         elif name not in HELD:
             yield "%s written" % name
 
@@ -170,12 +198,19 @@ def data(event, before, after):
         yield ": ".join([number, *written(address, 1, event.note, after)])
 
 
+def other_crc(state):
+    """What the open frame's CRC word would be by the other algorithm: the two differ by what their starts make of as many words 0."""
+    return state["phase.crc"] ^ crc([0] * (state["phase.got"] + 1))
+
+
 def closed(event, before, after):
     """The CRC word."""
+    if event.note in (6, 7) and is_makers(before) and event.value == other_crc(before):
+        yield "CRC word of %s, and this frame's is of %s" % (ALGORITHMS[1 - before["xmodem"]], ALGORITHMS[before["xmodem"]])
     if event.note == 6 and before["phase.mine"]:
         yield "%s taken back" % many(before["phase.mine"], "word")
     if event.note not in (6, 7):
-        yield "CRC word, right"
+        yield "CRC word, right" + by(before)
         if is_in(before, "open", "register_write") and before["open.crc"]:
             yield from written(before["open.address"], before["open.count"], event.note, after)
         if is_in(before, "open", "soft_reset") and not event.note:
@@ -188,12 +223,11 @@ def closed(event, before, after):
 def answered(event, before, after):
     reply = before["open"]
     if reply == NUMBER["check"]:
-        yield "answer: CRC %04X, the frame is over" % event.sdo
+        yield "answer: CRC %04X%s, the frame is over" % (event.sdo, by(before))
     elif reply == NUMBER["status"]:
         yield "answer: " + value_of("STATUS", event.sdo)
     elif reply == NUMBER["registers"]:
-        name = REGISTERS[before["open.address"]]
-        yield "answer: " + (bad_word(event.sdo, before) if name == "BADWORD" else value_of(name, event.sdo))
+        yield "answer: " + register(REGISTERS[before["open.address"]], event.sdo, before)
     elif event.note != 15:
         yield "answer: word %04X taken from RX, %s left there" % (event.sdo, after["rx.count"] or "none")
 
@@ -347,8 +381,11 @@ def flags_up(state):
 
 
 def powered(event, before, after):
-    state = "power-up, %s OTP: state %s, %s up" % ("good" if event.value else "bad", MODES[after["mode"]], flags_up(after))
+    layout = ", the maker's layout" if is_makers(after) else ""
+    state = "power-up, %s OTP%s: state %s, %s up" % ("good" if event.value % 2 else "bad", layout, MODES[after["mode"]], flags_up(after))
     yield state + cut_off(before)
+    if layout:
+        yield "SPICTRL is %04X%s" % (after["spictrl"], control(after["spictrl"], after))
     yield from lost(before)
     if before["rx.count"]:
         yield "%s in RX lost" % many(before["rx.count"], "word")
@@ -417,7 +454,8 @@ class Event:
 
 def words(event, before, after):
     own = list(KINDS[event.kind](event, before, after))
-    note = ["note %d, %s" % (event.note, NOTES[event.note])] if event.note else []
+    notes = MAKERS_NOTES if is_makers(before) else NOTES
+    note = ["note %d, %s" % (event.note, notes[event.note])] if event.note else []
     return "; ".join(own + note + ([] if event.kind == POWER else list(beside(event, before, after))))
 
 

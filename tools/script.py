@@ -5,7 +5,8 @@
 
 One event a line. `#` begins a comment, blank lines are skipped. UTF-8, with or without a byte-order mark.
 
-    power good          power-up; `power bad` with bad OTP
+    power good          power-up in our layout; `power bad` with bad OTP
+    power good makers   power-up in the maker's layout (02 item 7); `power bad makers` with bad OTP
     word 2000           host word, four hex digits; several stand for as many, as `word 2000 AAF0 AE24` does, which tools/frame prints
     release             chip select released
     tick 1              line tick with SIN 1; `tick 0` with SIN 0
@@ -24,6 +25,13 @@ A frame (01 Frames), of an order by name with its CRC word, or of bare words:
     badframe FWD_WR_CRC AAF0    as `frame`, the lowest bit of the CRC word turned
     crc FWD_WR_CRC AAF0         the CRC word alone, where a frame's words are written one by one
 
+Command words are those of the layout that the last `power` line chose; before the first it is ours. In the maker's layout a CRC is CCITT-FALSE, as
+after power-up, and CRC-16/XMODEM in a line that says so, as the host does once SPICTRL's bit 2 is set by an earlier frame:
+
+    frame xmodem FWD_WR_CRC AAF0    so in `badframe` and `crc` lines too, and before bare words
+
+The two never give the same word: in a run the wrong one is note 6 or 7. In our layout `xmodem` is refused.
+
 Any other text: `FILE:LINE: expected .., found ..` on standard error, exit status 1, nothing written. Status 2: the command line is wrong.
 
 Orders: a name, its fields (decimal, in any order), its data words (four hex digits each):
@@ -36,12 +44,14 @@ import sys
 sys.dont_write_bytecode = True
 sys.path.insert(0, str(pathlib.Path(__file__).resolve().parent))
 from ends import ended, put  # noqa: E402
-from frames import COMMAND, ROWS, closed, hex_words, is_hex, listed, order  # noqa: E402
+from frames import COMMAND, LAYOUTS, MAKERS, OURS, ROWS, XMODEM, closed, hex_words, is_hex, listed, order  # noqa: E402
 from refused import Refused, refuse  # noqa: E402
 
 MARK = b"CWB"
 HEAD = MARK + b"\x00\x01"
 POWER, WORD, RELEASE, TICK, CLOCK = range(5)
+POWER_UPS = {"good": 1, "bad": 0, "good makers": 3, "bad makers": 2}
+BITS = {"0": 0, "1": 1}
 FILLER = 0xFFFF
 
 
@@ -50,10 +60,11 @@ def records(kind, values):
 
 
 def chosen(arguments, choices):
-    """The value of the one argument, a key of `choices`."""
-    if len(arguments) != 1 or arguments[0] not in choices:
-        refuse(" or ".join("`%s`" % name for name in choices), arguments)
-    return choices[arguments[0]]
+    """The value of the arguments, which are a key of `choices`."""
+    if " ".join(arguments) not in choices:
+        *front, last = ("`%s`" % name for name in choices)
+        refuse("%s or %s" % (", ".join(front), last), arguments)
+    return choices[" ".join(arguments)]
 
 
 def decimal(arguments, least):
@@ -62,20 +73,32 @@ def decimal(arguments, least):
     return int(arguments[0])
 
 
-def frame_words(arguments):
+def algorithm(arguments, layout):
+    """The layout with the CRC that the line asks for, and what stands behind the word that asks."""
+    if arguments[:1] == [MAKERS]:
+        refuse("the layout in a `power` line alone", arguments[:1])
+    if arguments[:1] != [XMODEM]:
+        return layout, arguments
+    if layout == OURS:
+        refuse("no `xmodem` in our layout, which has one CRC (`power good makers` chooses the maker's)", arguments[:1])
+    return XMODEM, arguments[1:]
+
+
+def frame_words(arguments, in_force):
     """A frame's words, its CRC word too: of an order by name, or as they stand in hex."""
+    layout, arguments = algorithm(arguments, in_force)
     if arguments and arguments[0] in ROWS:
-        return order(arguments)
+        return order(arguments if layout == OURS else [layout, *arguments])
     if not arguments or not is_hex(arguments[0]):
         refuse("%s, or words of four hex digits" % COMMAND, arguments[:1])
     words = hex_words(arguments)
-    if len(words) > 1 and words == closed(words[:-1]):
+    if len(words) > 1 and any(words == closed(words[:-1], each) for each in ([OURS] if layout == OURS else LAYOUTS)):
         refuse("words without their CRC word, which is added (`word` sends words as they are)", arguments[-1:])
-    return closed(words)
+    return closed(words, layout)
 
 
 def power(arguments):
-    return records(POWER, [chosen(arguments, {"good": 1, "bad": 0})])
+    return records(POWER, [chosen(arguments, POWER_UPS)])
 
 
 def word(arguments):
@@ -91,7 +114,7 @@ def release(arguments):
 
 
 def tick(arguments):
-    return records(TICK, [chosen(arguments, {"0": 0, "1": 1})])
+    return records(TICK, [chosen(arguments, BITS)])
 
 
 def clock(arguments):
@@ -108,35 +131,33 @@ def bits(arguments):
     return records(TICK, [int(bit) for bit in "".join(arguments)])
 
 
-def frame(arguments):
-    return records(WORD, frame_words(arguments))
-
-
-def badframe(arguments):
-    *words, right = frame_words(arguments)
-    return records(WORD, [*words, right ^ 1])
-
-
-def crc_alone(arguments):
-    return records(WORD, frame_words(arguments)[-1:])
-
-
 def answer(arguments):
     return records(WORD, [FILLER] * decimal(arguments, 1))
 
 
-FORMS = {"power": power, "word": word, "release": release, "tick": tick, "clock": clock, "ticks": ticks,
-         "bits": bits, "frame": frame, "badframe": badframe, "crc": crc_alone, "answer": answer}
+FORMS = {"power": power, "word": word, "release": release, "tick": tick, "clock": clock, "ticks": ticks, "bits": bits, "answer": answer}
+# of a frame's words, those that the line sends
+FRAMES = {"frame": lambda words: words, "badframe": lambda words: [*words[:-1], words[-1] ^ 1], "crc": lambda words: words[-1:]}
 
 
-def events(line):
-    """The records of one line."""
+def events(line, layout):
+    """The records of one line, where this layout is in force."""
     parts = re.findall(r"[^ \t]+", line.split("#")[0])
     if not parts:
         return b""
-    if parts[0] not in FORMS:
-        refuse("an event (%s)" % ", ".join(FORMS), parts[:1])
-    return FORMS[parts[0]](parts[1:])
+    name, *arguments = parts
+    if name in FRAMES:
+        return records(WORD, FRAMES[name](frame_words(arguments, layout)))
+    if name not in FORMS:
+        refuse("an event (%s)" % ", ".join([*FORMS, *FRAMES]), parts[:1])
+    return FORMS[name](arguments)
+
+
+def layout_after(made, layout):
+    """The layout in force behind a line's records: a power-up chooses it."""
+    if made[:1] != bytes([POWER]):
+        return layout
+    return MAKERS if made[-1] in (POWER_UPS["good makers"], POWER_UPS["bad makers"]) else OURS
 
 
 def source(name):
@@ -145,10 +166,11 @@ def source(name):
 
 
 def script(name, text):
-    made = [HEAD]
+    made, layout = [HEAD], OURS
     for number, line in enumerate(re.split("\r\n|\n|\r", text), 1):
         try:
-            made.append(events(line))
+            made.append(events(line, layout))
+            layout = layout_after(made[-1], layout)
         except Refused as refused:
             raise Refused("%s:%d: %s" % (source(name), number, refused)) from None
     return b"".join(made)

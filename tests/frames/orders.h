@@ -1,4 +1,5 @@
-/* Every order that 01's table allows ("Frames"), with the address limit of 02 item 4, for the programs that go through them. */
+/* Every order that 01's table allows ("Frames"), with the address limit of 02 item 4, for the programs that go through them. The limits are the
+ * same in the maker's layout (02 item 7): each field of document 001's table 7-2 holds what 01's holds. */
 #ifndef ORDERS_H
 #define ORDERS_H
 

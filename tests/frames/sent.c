@@ -5,9 +5,12 @@
  *   sent script FIRST LAST  the bench script of these orders: for each a power-up, the frame, the answer's words, chip select released
  *   sent judge FIRST LAST   what the bench printed of that script on standard input: a line for each command, or the first thing wrong
  *
+ * Each takes a layout behind that (02 item 7; 0, 1 or 2, the header's numbers) and then uses the functions that take one: the power-up
+ * is in that layout, and for 2 a register write turns SPI_CRC_ALG on before the frame.
+ *
  * Orders are numbered in the order of 01's table, each with every number of data words that it can have: one for each command word that
- * 01 allows. Wrong is a note that is not of the bridge's state (01 Notes: 0, 5, 8, 9, 10, 11), an answer word during the frame, and an
- * answer that the library does not read as the order's.
+ * the layout allows. Wrong is a note that is not of the bridge's state (01 Notes: 0, 5, 8, 9, 10, 11), an answer word during the frame, and
+ * an answer that the library does not read as the order's.
  */
 #include "icelichen_frames.h"
 #include "orders.h"
@@ -18,6 +21,7 @@
 
 enum { POWER, WORD, RELEASE };
 enum { MOST_WORDS = 4096, MOST_ANSWER = 257, FILLER = 0xFFFF };
+enum { OUR_POWER_UP = 1, MAKERS_POWER_UP = 3, SPICTRL = 1, XMODEM = 0x00A4 };   /* SPICTRL as it resets, with SPI_CRC_ALG */
 
 struct job {
     unsigned first, last;
@@ -25,6 +29,8 @@ struct job {
 };
 
 static struct job job;
+static bool in;                         /* the functions that take a layout */
+static uint32_t layout;
 static unsigned number;                 /* of the next order */
 static uint16_t frame[MOST_WORDS + ICELICHEN_BESIDE];
 static struct { unsigned orders, notes[16]; } seen;
@@ -49,10 +55,25 @@ static size_t written(const struct order *o, size_t words)
     uint16_t data[MOST_WORDS];
     for (size_t i = 0; i < words; i++)
         data[i] = data_word(o, i);
-    int32_t length = icelichen_frame(o->command, o->ends, o->address, o->count, data, words, frame, CELLS_OF(frame));
+    int32_t length = in ? icelichen_frame_in(layout, o->command, o->ends, o->address, o->count, data, words, frame, CELLS_OF(frame))
+                        : icelichen_frame(o->command, o->ends, o->address, o->count, data, words, frame, CELLS_OF(frame));
     if (length != (int32_t)words + ICELICHEN_BESIDE)
         fail(o, words, "the library did not write it");
     return (size_t)length;
+}
+
+static uint16_t power_up(void)
+{
+    return layout == ICELICHEN_OURS ? OUR_POWER_UP : MAKERS_POWER_UP;
+}
+
+/* The frame that turns SPI_CRC_ALG on, by the CRC of power-up; no words where it stays off. */
+static size_t turned_on(uint16_t *words)
+{
+    const uint16_t control = XMODEM;
+    if (layout != ICELICHEN_MAKERS_XMODEM)
+        return 0;
+    return (size_t)icelichen_frame_in(ICELICHEN_MAKERS, ICELICHEN_REG_WR_CRC, 0, SPICTRL, 0, &control, 1, words, 1 + ICELICHEN_BESIDE);
 }
 
 static size_t answer_length(const struct order *o)
@@ -76,7 +97,9 @@ static void close_part(void)
 
 static void planned(const struct order *o, size_t words)
 {
-    unsigned long more = 1 + words + ICELICHEN_BESIDE + answer_length(o) + 1;
+    uint16_t before[1 + ICELICHEN_BESIDE];
+    size_t turned = turned_on(before);
+    unsigned long more = 1 + (turned > 0 ? turned + 1 : 0) + words + ICELICHEN_BESIDE + answer_length(o) + 1;
     if (o->command != command || events + more > most)
         close_part();
     command = o->command;
@@ -94,8 +117,13 @@ static void event(unsigned kind, uint16_t value)
 
 static void scripted(const struct order *o, size_t words)
 {
-    size_t length = written(o, words);
-    event(POWER, 1);
+    uint16_t before[1 + ICELICHEN_BESIDE];
+    size_t length = written(o, words), turned = turned_on(before);
+    event(POWER, power_up());
+    for (size_t i = 0; i < turned; i++)
+        event(WORD, before[i]);
+    if (turned > 0)
+        event(RELEASE, 0);
     for (size_t i = 0; i < length; i++)
         event(WORD, frame[i]);
     for (size_t i = 0; i < answer_length(o); i++)
@@ -128,17 +156,26 @@ static void judge_answer(const struct order *o, size_t words)
             fail(o, words, "a note in the answer that is neither 0 nor 15");
         answer[i] = (uint16_t)sdo;
     }
-    int32_t status = icelichen_status(o->command, o->ends, o->address, o->count, answer, length);
-    int32_t data = icelichen_data(o->command, o->ends, o->address, o->count, answer, length);
+    int32_t status = in ? icelichen_status_in(layout, o->command, o->ends, o->address, o->count, answer, length)
+                        : icelichen_status(o->command, o->ends, o->address, o->count, answer, length);
+    int32_t data = in ? icelichen_data_in(layout, o->command, o->ends, o->address, o->count, answer, length)
+                      : icelichen_data(o->command, o->ends, o->address, o->count, answer, length);
     if (o->count > 0 ? data != (int32_t)o->count || status != ICELICHEN_OUTSIDE_LIMITS : status != answer[0] || data != ICELICHEN_OUTSIDE_LIMITS)
         fail(o, words, "the bench's answer is not read as this order's");
 }
 
 static void judged(const struct order *o, size_t words)
 {
+    uint16_t before[1 + ICELICHEN_BESIDE];
     unsigned note, sdo;
-    size_t length = written(o, words);
-    printed(o, words, POWER, 1, &note, &sdo);
+    size_t length = written(o, words), turned = turned_on(before);
+    printed(o, words, POWER, power_up(), &note, &sdo);
+    for (size_t i = 0; i < turned; i++)
+        printed(o, words, WORD, before[i], &note, &sdo);
+    if (turned > 0)
+        printed(o, words, RELEASE, 0, &note, &sdo);
+    if (note != 0)
+        fail(o, words, "a power-up or the frame before it: not note 0");
     for (size_t i = 0; i < length; i++) {
         printed(o, words, WORD, frame[i], &note, &sdo);
         if (note != 0 && note != 5 && (note < 8 || note > 11))
@@ -185,16 +222,19 @@ static unsigned long asked(const char *text)
 int main(int count, char **words)
 {
     const char *verb = count > 1 ? words[1] : "";
+    int needed = strcmp(verb, "plan") == 0 ? 3 : 4;
     job = (struct job){0, ~0u, planned};
-    if (count == 3 && strcmp(verb, "plan") == 0) {
+    in = count == needed + 1;
+    if ((count != needed && !in) || (needed == 4 && strcmp(verb, "script") != 0 && strcmp(verb, "judge") != 0)) {
+        fprintf(stderr, "sent: plan MOST, script FIRST LAST or judge FIRST LAST, and then a layout or none\n");
+        return 2;
+    }
+    layout = in ? (uint32_t)asked(words[needed]) : ICELICHEN_OURS;
+    if (needed == 3) {
         most = asked(words[2]);
         each();
         close_part();
         return 0;
-    }
-    if (count != 4 || (strcmp(verb, "script") != 0 && strcmp(verb, "judge") != 0)) {
-        fprintf(stderr, "sent: plan MOST, script FIRST LAST or judge FIRST LAST\n");
-        return 2;
     }
     job = (struct job){(unsigned)asked(words[2]), (unsigned)asked(words[3]), strcmp(verb, "script") == 0 ? scripted : judged};
     if (job.one == scripted)

@@ -1,17 +1,22 @@
 /*
- * trial.c - goes through the host frames of document 02, item 1, and prints what it saw.
+ * trial.c - goes through the host frames of document 02, items 1 and 7, and prints what it saw.
  *
  *   gcc -std=c11 -Wall -Wextra -Werror -O2 -Iinclude tests/frames/trial.c tests/frames/model.c
  *
- * It calls the three functions only through include/icelichen_frames.h. Linked with tests/frames/model.c and with the library it
- * must print the same, byte for byte. Written from 01 "Frames", 02 items 1 and 4, what was decided about them, and the header's text.
+ * It calls the six functions only through include/icelichen_frames.h. Linked with tests/frames/model.c and with the library it
+ * must print the same, byte for byte. Written from 01 "Frames", 02 items 1, 4 and 7, document 001's table 7-2, what was decided about
+ * them, and the header's text.
  *
+ *   ways     what follows, with the three functions that have no layout, with the others in each layout, and in none (3):
  *   grid     orders within and just outside 01's limits, four lengths of buffer each, with guard cells around the buffer
- *   all      every command word that 01's table allows, each once
+ *   all      every command word that the table allows, each once
  *   word     every data word in a frame of one word
  *   answer   right and wrong answers to every order within the limits
  *   outside  answers to the orders of the grid
  *   value    every STATUS value, and every CRC word behind some
+ *
+ *   known    frames worked out beside the tables, the sheet's own numbers among them
+ *   no layout  every order, with numbers that are no layout's
  *
  * Digests are FNV-1a of 32 bits over words, high byte first. The last line counts the faults that need no second program to be
  * seen (a refusal that wrote, a guard cell changed, a wrong CRC word, a turned bit not found ..); with one the exit status is 1.
@@ -29,6 +34,25 @@
 
 enum { GUARD = 64, POOL = 70000, MUCH = 1000, ARENA = GUARD + POOL + ICELICHEN_BESIDE + MUCH + GUARD };
 enum { WATCHED = 4097, LONGEST = 300, SHORT_ANSWER = 13, ALL_ONES_TO = 260, FAULTS_TOLD = 50, FRAMES_TOLD = 5000 };
+
+/* The functions that are tried, and what is due of them. */
+static const struct way {
+    const char *name;
+    bool in;                            /* those that take a layout */
+    uint32_t layout;
+    uint16_t start;                     /* of its CRC (02 item 7) */
+    bool refused;                       /* no layout's number: nothing is written or taken */
+} WAYS[] = {
+    {"without a layout", false, ICELICHEN_OURS, 0xFFFF, false},
+    {"in our layout", true, ICELICHEN_OURS, 0xFFFF, false},
+    {"in the maker's", true, ICELICHEN_MAKERS, 0xFFFF, false},
+    {"in the maker's by XMODEM", true, ICELICHEN_MAKERS_XMODEM, 0x0000, false},
+    {"in no layout", true, 3, 0xFFFF, true},
+};
+
+/* Cut to 8 or 16 bits some of these would be a layout's. */
+static const uint32_t NO_LAYOUTS[] = {3, 4, 5, 14, 127, 255, 256, 257, 258, 65535, 65536, 65537, 65538, 2147483648, 2147483649, 4294967294,
+                                      4294967295};
 
 /* What came of a number of calls. */
 struct tally {
@@ -49,13 +73,16 @@ static uint16_t arena[ARENA];           /* guard cells, the buffer, guard cells 
 static uint16_t *const buffer = arena + GUARD;
 static uint16_t *store;                 /* an answer lies at its end, and behind it a page that cannot be read */
 static bool came_out[65536];            /* command words */
+static struct way way;                  /* the one that is tried */
+static struct tally overall;            /* all calls of it */
+static uint32_t seed;
+static unsigned frames_told;
 static unsigned faults;
 
 /* ---- words, digests, the CRC ---- */
 
 static uint16_t next_word(void)
 {
-    static uint32_t seed = 0x1CE11C4E;
     seed ^= seed << 13;
     seed ^= seed >> 17;
     seed ^= seed << 5;
@@ -107,7 +134,7 @@ static uint16_t crc_byte(uint16_t crc, unsigned byte)
 
 static uint16_t crc_of(const uint16_t *words, size_t length)
 {
-    uint16_t crc = 0xFFFF;
+    uint16_t crc = way.start;
     for (size_t i = 0; i < length; i++)
         crc = crc_byte(crc_byte(crc, words[i] >> 8), words[i] & 0xFF);
     return crc;
@@ -116,15 +143,29 @@ static uint16_t crc_of(const uint16_t *words, size_t length)
 static void fault(const char *what, const struct order *o, size_t words, size_t length)
 {
     if (++faults <= FAULTS_TOLD)
-        printf("FAULT %s: command %u ends %u address %u count %u words %zu length %zu\n",
-               what, o->command, o->ends, o->address, o->count, words, length);
+        printf("FAULT %s, layout %u: command %u ends %u address %u count %u words %zu length %zu\n",
+               what, way.layout, o->command, o->ends, o->address, o->count, words, length);
+}
+
+static void count_call(int32_t result)
+{
+    overall.calls++;
+    overall.taken += result >= 0;
+    overall.digest = mix_long(overall.digest, (uint32_t)result);
 }
 
 /* ---- grid: limits, buffers, guards ---- */
 
 static int32_t write_frame(const struct order *o, const uint16_t *words, size_t number, size_t length)
 {
-    return icelichen_frame(o->command, o->ends, o->address, o->count, words, number, buffer, length);
+    int32_t result = way.in ? icelichen_frame_in(way.layout, o->command, o->ends, o->address, o->count, words, number, buffer, length)
+                            : icelichen_frame(o->command, o->ends, o->address, o->count, words, number, buffer, length);
+    count_call(result);
+    if (result >= ICELICHEN_BESIDE && (size_t)result <= length)
+        overall.digest = mix(mix(overall.digest, buffer[0]), buffer[result - 1]);
+    if (way.refused && result != ICELICHEN_OUTSIDE_LIMITS)
+        fault("a number that is no layout's not refused", o, number, length);
+    return result;
 }
 
 /* Cells looked at: the buffer, as far as a frame of this many words would reach, and the guards. */
@@ -159,8 +200,7 @@ static uint32_t look(const struct order *o, size_t number, size_t length, int32_
 /* Every result but 20 has its line; a writer that seldom says 20 has no more lines than these, its digests tell the rest. */
 static void tell_frame(const struct order *o, size_t number, size_t length, int32_t result)
 {
-    static unsigned told;
-    if (++told > FRAMES_TOLD)
+    if (++frames_told > FRAMES_TOLD)
         return;
     printf("frame %u ends %u address %u count %u words %zu in %zu: %d buffer %08X guards %s", o->command, o->ends, o->address,
            o->count, number, length, (int)result, (unsigned)digest_of(buffer, length),
@@ -220,7 +260,7 @@ static void grid_number(size_t number)
     }
 }
 
-/* ---- all: every command word of 01's table ---- */
+/* ---- all: every command word of the layout's table ---- */
 
 static struct { unsigned orders, written, distinct; uint32_t digest; } all;
 
@@ -233,6 +273,10 @@ static void all_of_order(const struct row *row, const struct order *o)
         int32_t result = write_frame(o, words, number, length);
         all.orders++;
         all.written += result == (int32_t)length;
+        if (way.refused) {
+            look(o, number, length, result, 0);
+            continue;
+        }
         if (result != (int32_t)length)
             fault("an order within the limits not written", o, number, length);
         if (crc_of(buffer, length) != 0 || memcmp(buffer + 1, words, number * sizeof *words) != 0)
@@ -272,7 +316,7 @@ static void all_words(void)
         each_order(&ROWS[i], all_of_order);
         printf("all %u %s: orders %u written %u distinct command words %u frames %08X\n", ROWS[i].command, ROWS[i].name,
                all.orders, all.written, all.distinct, (unsigned)all.digest);
-        if (all.distinct != all.orders)
+        if (all.distinct != (way.refused ? 0 : all.orders))
             fault("two orders, one command word", &(struct order){ROWS[i].command, 0, 0, 0}, 0, 0);
         orders += all.orders;
         distinct += all.distinct;
@@ -320,9 +364,15 @@ static uint16_t *lay_right(size_t length)
 /* Both readers are asked; the digest is over what they say. */
 static unsigned ask(const struct order *o, const uint16_t *answer, size_t length, struct tally *t)
 {
-    int32_t status = icelichen_status(o->command, o->ends, o->address, o->count, answer, length);
-    int32_t data = icelichen_data(o->command, o->ends, o->address, o->count, answer, length);
-    unsigned taken = (status >= 0) + (data >= 0);
+    int32_t status = way.in ? icelichen_status_in(way.layout, o->command, o->ends, o->address, o->count, answer, length)
+                            : icelichen_status(o->command, o->ends, o->address, o->count, answer, length);
+    int32_t data = way.in ? icelichen_data_in(way.layout, o->command, o->ends, o->address, o->count, answer, length)
+                          : icelichen_data(o->command, o->ends, o->address, o->count, answer, length);
+    unsigned taken = (status >= 0 ? 1u : 0u) + (data >= 0 ? 1u : 0u);
+    count_call(status);
+    count_call(data);
+    if (way.refused && (status != ICELICHEN_OUTSIDE_LIMITS || data != ICELICHEN_OUTSIDE_LIMITS))
+        fault("an answer in no layout not refused", o, 0, length);
     t->calls += 2;
     t->taken += taken;
     t->digest = mix_long(mix_long(t->digest, (uint32_t)status), (uint32_t)data);
@@ -349,7 +399,7 @@ static void right_answers(const struct order *o, size_t due)
             memset(answer, fill == 1 ? 0xFF : 0, (due - 1) * sizeof *answer);
         answer[due - 1] = crc_of(answer, due - 1);
         uint32_t before = digest_of(answer, due);
-        if (ask(o, answer, due, &t) != 1)
+        if (ask(o, answer, due, &t) != (way.refused ? 0 : 1))
             fault("a right answer, not taken by one reader", o, 0, due);
         if (digest_of(answer, due) != before)
             fault("an answer changed", o, 0, due);
@@ -495,7 +545,7 @@ static void every_crc(const struct order *o, uint16_t first)
     printf("value %u %04X every CRC word:", o->command, first);
     tell("right", &t);
     printf(" last %04X\n", right);
-    if (t.taken != 1)
+    if (t.taken != (way.refused ? 0 : 1))
         fault("not one right CRC word", o, 0, 2);
 }
 
@@ -511,17 +561,16 @@ static void values(void)
     }
 }
 
-int main(void)
-{
-    pool = guarded(POOL);
-    store = guarded(LONGEST);
-    for (size_t i = 0; i < POOL; i++)
-        pool[i] = next_word();
-    for (size_t i = 0; i < ARENA; i++)
-        fresh[i] = next_word();
-    memcpy(arena, fresh, sizeof arena);
-    uint32_t words = digest_of(pool, POOL);
+/* ---- ways ---- */
 
+/* All of it, with the same words as every other way. */
+static void try_way(void)
+{
+    seed = 0x0DD5EED5;
+    frames_told = 0;
+    overall = (struct tally){0, 0, NO_WORDS};
+    memset(came_out, 0, sizeof came_out);
+    printf("way: %s\n", way.name);
     for (size_t i = 0; i < CELLS_OF(NUMBERS); i++)
         grid_number(NUMBERS[i]);
     all_words();
@@ -532,6 +581,113 @@ int main(void)
         for (size_t e = 0; e < CELLS_OF(ENDS); e++)
             outside_group(COMMANDS[c], ENDS[e]);
     values();
+    printf("way: %s:", way.name);
+    tell("taken", &overall);
+    printf("\n");
+}
+
+/* The header: with ICELICHEN_OURS the three that take a layout are the three that take none. */
+static void try_ways(void)
+{
+    struct tally first = {0, 0, 0};
+    for (size_t i = 0; i < CELLS_OF(WAYS); i++) {
+        way = WAYS[i];
+        try_way();
+        if (!way.in)
+            first = overall;
+        else if (way.layout == ICELICHEN_OURS && (overall.taken != first.taken || overall.digest != first.digest))
+            fault("our layout is not what the functions without one do", &(struct order){0, 0, 0, 0}, 0, 0);
+    }
+}
+
+/* ---- known ---- */
+
+/* Data word i is 0xAAF0 + i. 0xD383 and 0xCE8C are document 001's (7.5.4, SOFTRESET_CRC); the other CRC words are from Python's
+ * binascii.crc_hqx, the command words read off 01's table and table 7-2. */
+static const struct known {
+    uint32_t layout;
+    struct order order;
+    size_t words;
+    uint16_t command, crc;
+} KNOWN[] = {
+    {0, {2, 0, 0, 0}, 1, 0x2000, 0xAE24},    {1, {2, 0, 0, 0}, 1, 0x2000, 0xAE24},     {2, {2, 0, 0, 0}, 1, 0x2000, 0x2AE4},
+    {0, {14, 0, 0, 0}, 0, 0xE000, 0x0DBD},   {1, {14, 0, 0, 0}, 0, 0xE1E1, 0xD383},    {2, {14, 0, 0, 0}, 0, 0xE1E1, 0xCE8C},
+    {0, {5, 3, 0, 0}, 2, 0x5062, 0x4FDF},    {1, {5, 3, 0, 0}, 2, 0x5103, 0xB9F2},     {2, {5, 3, 0, 0}, 2, 0x5103, 0xB7E2},
+    {1, {4, 127, 0, 0}, 0, 0x407F, 0x9FBB},  {1, {4, 0, 0, 0}, 31, 0x4F80, 0x6B0C},    {1, {7, 127, 0, 0}, 1, 0x707F, 0x2F26},
+    {2, {6, 1, 0, 0}, 32, 0x6F81, 0x89FB},   {1, {2, 0, 0, 0}, 512, 0x21FF, 0xB943},   {1, {3, 0, 0, 0}, 4096, 0x3FFF, 0x82F9},
+    {1, {8, 0, 0, 1}, 0, 0x8000, 0x0697},    {2, {9, 0, 0, 256}, 0, 0x90FF, 0x061B},   {2, {11, 0, 0, 0}, 12, 0xB00B, 0xA89E},
+    {0, {10, 0, 1, 0}, 1, 0xA001, 0x442C},   {1, {10, 0, 1, 0}, 1, 0xA040, 0x6EB1},    {1, {10, 0, 10, 0}, 2, 0xA281, 0x80FD},
+    {0, {13, 0, 7, 1}, 0, 0xD007, 0x78CF},   {1, {13, 0, 7, 1}, 0, 0xD1C0, 0xE255},    {2, {12, 0, 11, 1}, 0, 0xC2C0, 0xA97A},
+    {1, {13, 0, 0, 12}, 0, 0xD00B, 0xB943},
+};
+
+static void known_frames(void)
+{
+    static uint16_t data[4096];
+    for (size_t i = 0; i < CELLS_OF(data); i++)
+        data[i] = (uint16_t)(0xAAF0 + i);
+    for (size_t i = 0; i < CELLS_OF(KNOWN); i++) {
+        const struct known *k = &KNOWN[i];
+        size_t length = k->words + ICELICHEN_BESIDE;
+        way = (struct way){"known", true, k->layout, k->layout == ICELICHEN_MAKERS_XMODEM ? 0 : 0xFFFF, false};
+        int32_t result = write_frame(&k->order, data, k->words, length);
+        printf("known %u, command %u words %zu: %d %04X %04X\n", k->layout, k->order.command, k->words, (int)result, buffer[0],
+               buffer[length - 1]);
+        if (result != (int32_t)length || buffer[0] != k->command || buffer[length - 1] != k->crc)
+            fault("another frame than the known one", &k->order, k->words, length);
+        memcpy(arena, fresh, zone_of(k->words, length) * sizeof *arena);
+    }
+}
+
+/* ---- no layout ---- */
+
+static struct tally refused;
+
+/* The least and the most words, buffers that are enough, none and much longer; answers that are right by either CRC. */
+static void refused_order(const struct row *row, const struct order *o)
+{
+    const size_t numbers[2] = {row->least, most_words(row, o)}, due = row->reads > 0 ? o->count + 1u : 2u;
+    for (size_t i = 0; i < 6; i++) {
+        size_t number = numbers[i % 2], length = i < 2 ? number + ICELICHEN_BESIDE : i < 4 ? 0 : number + ICELICHEN_BESIDE + MUCH;
+        int32_t result = write_frame(o, pool + (POOL - number), number, length);
+        refused.calls++;
+        refused.taken += result >= 0;
+        look(o, number, length, result, 0);
+    }
+    for (unsigned i = 0; i < 2; i++) {
+        way.start ^= 0xFFFF;
+        ask(o, lay_right(due), due, &refused);
+    }
+}
+
+static void no_layouts(void)
+{
+    for (size_t i = 0; i < CELLS_OF(NO_LAYOUTS); i++) {
+        way = (struct way){"no layout", true, NO_LAYOUTS[i], 0xFFFF, true};
+        refused = (struct tally){0, 0, NO_WORDS};
+        for (size_t k = 0; k < CELLS_OF(ROWS); k++)
+            each_order(&ROWS[k], refused_order);
+        printf("no layout %u:", way.layout);
+        tell("taken", &refused);
+        printf("\n");
+    }
+}
+
+int main(void)
+{
+    seed = 0x1CE11C4E;
+    pool = guarded(POOL);
+    store = guarded(LONGEST);
+    for (size_t i = 0; i < POOL; i++)
+        pool[i] = next_word();
+    for (size_t i = 0; i < ARENA; i++)
+        fresh[i] = next_word();
+    memcpy(arena, fresh, sizeof arena);
+    uint32_t words = digest_of(pool, POOL);
+
+    try_ways();
+    known_frames();
+    no_layouts();
 
     if (digest_of(pool, POOL) != words)
         fault("data words changed", &(struct order){0, 0, 0, 0}, POOL, 0);

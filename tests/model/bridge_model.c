@@ -1,15 +1,18 @@
 /*
- * bridge_model.c - an independent model of the bridge of document 01, with items 2, 3 and 4 of document 02.
+ * bridge_model.c - an independent model of the bridge of document 01, with items 2, 3, 4 and 7 of document 02.
  *
  *   bridge_model [-c | -i] [file.cwb]
  *
  * Plain: reads a CWB script (file or standard input), prints one line an event.
  *   -c   prints at the end how often each note occurred, instead of the lines
- *   -i   flushes every line at once and adds a sixth number, the SOUT bit the next
- *        tick would give (used by make_scripts.py, which needs it for a loop-back)
+ *   -i   flushes every line at once and adds two numbers: the SOUT bit the next tick
+ *        would give, and how the next frame is to be written (0 our layout, 1 the
+ *        maker's, 2 the maker's with CRC start 0). Used by make_scripts.py, which
+ *        needs the one for a loop-back and the other for its frames
  *
  * The section of 01 that a function follows is named above it; "points" is
- * docs/DECISIONS.md.
+ * docs/DECISIONS.md, "sheet" is document 001, whose command words and registers
+ * the maker's layout has (02 item 7).
  */
 #include <stdbool.h>
 #include <stdint.h>
@@ -18,8 +21,10 @@
 
 enum { TX_SIZE = 512, RX_SIZE = 256, PLACES = 8, END_BITS = 18, GROUP_BITS = 17 };
 enum { REGISTERS = 12, SIN_LIMIT_MS = 5 };
-enum { START_LEVEL = 63 };              /* 02 item 2: TXFFLVL at power-up */
+enum { START_LEVEL = 63 };              /* 02 item 2: TXFFLVL at power-up, in our layout */
 enum { LAST_NUMBER = 65535 };           /* 02 item 4: where the number of a word stops */
+enum { MAKERS_DEVID = 0xED99, MAKERS_SPICTRL = 0x00A0, MAKERS_LEVEL = 511 };     /* sheet 7.6.1, 7.6.2, 7.6.4: reset values */
+enum { CRC_START = 0xFFFF, XMODEM_START = 0, SPI_CRC_ALG = 4, NO_STATUS = 1 };  /* the last two: bits of SPICTRL, sheet table 7-6 */
 enum device_state { NORMAL = 0, INIT = 1, FAILSAFE = 3 };
 
 /* 01 "Notes": the numbers of those this program can meet (1 and 2 never are). */
@@ -89,11 +94,13 @@ struct frame {
     struct command cmd;
     unsigned came, stored, left;        /* data words come, stored; answer words left */
     bool released, blocked;
+    uint16_t start;                     /* of both its CRCs, as its command word found it (02 item 7) */
     uint16_t crc, status;
     uint16_t shadow[REGISTERS];
 };
 
 struct bridge {
+    bool makers;                        /* the layout of command words and registers: the maker's, or ours (02 item 7) */
     enum device_state state;
     struct flags flag;
     uint16_t spictrl, ccsictrl, tx_level, rx_level, diagmask;
@@ -165,6 +172,17 @@ static void power_up(struct bridge *b, bool good)
     b->last_sin = 1;
 }
 
+/* 02 item 7: values 0 and 1 are 01's, 2 (bad) and 3 (good) choose the maker's layout; its registers reset as in sheet 7.6. */
+static void power_event(struct bridge *b, uint16_t value)
+{
+    power_up(b, value % 2 == 1);
+    if (value < 2)
+        return;
+    b->makers = true;
+    b->spictrl = MAKERS_SPICTRL;
+    b->tx_level = MAKERS_LEVEL;
+}
+
 /* ---- 01 "Registers": reading. ---- */
 
 /* 01 "Notes", last line. */
@@ -217,6 +235,7 @@ static uint16_t read_register(const struct bridge *b, unsigned address)
 {
     const struct flags *f = &b->flag;
     switch (address) {
+    case DEVID:     return b->makers ? MAKERS_DEVID : 0;
     case SPICTRL:   return b->spictrl;
     case CCSICTRL:  return b->ccsictrl;
     case TXFFLVL:   return b->tx_level;
@@ -227,7 +246,7 @@ static uint16_t read_register(const struct bridge *b, unsigned address)
     case TXFFST:    return fifo_word(f->tx_ovf, f->tx_uvf, b->tx.count, 511);
     case RXFFST:    return fifo_word(f->rx_ovf, f->rx_uvf, b->rx.count, 255);
     case BADWORD:   return b->check_word;
-    default:        return 0;           /* DEVID, DEVCTRL */
+    default:        return 0;           /* DEVCTRL */
     }
 }
 
@@ -307,11 +326,17 @@ static void clear_flags(struct bridge *b)
     b->check_word = 0;
 }
 
+/* 01: watchdog and no answer. 02 item 7, sheet table 7-6: watchdog 13..12, timeout 7..4, algorithm, SDO, no answer; the rest is reserved. */
+static uint16_t writable_spictrl(const struct bridge *b)
+{
+    return b->makers ? 0x30F7 : 0xFF01;
+}
+
 static int write_register(struct bridge *b, unsigned address, uint16_t value)
 {
     switch (address) {
     case SPICTRL:
-        b->spictrl = value & 0xFF01;
+        b->spictrl = value & writable_spictrl(b);
         break;
     case CCSICTRL:
         return write_ccsictrl(b, value);
@@ -507,7 +532,7 @@ static void reader_start(struct bridge *b)
     struct reader *r = &b->reader;
     memset(r, 0, sizeof *r);
     r->mode = READ_GROUP;
-    r->crc = 0xFFFF;
+    r->crc = CRC_START;                 /* the line's, in both layouts: SPI_CRC_ALG is of SPI alone (sheet table 7-6) */
     r->place = -1;
     for (unsigned i = 0; i < b->places && r->place < 0; i++)
         if (b->place[i].words > 0 && b->place[i].begun && !b->place[i].read)
@@ -618,11 +643,10 @@ static void line_tick(struct bridge *b, unsigned sin, struct result *res)
 
 /* ---- 01 "Frames": command words. ---- */
 
-static bool decode(uint16_t word, struct command *c)
+/* 01 "Frames", our layout: the low twelve bits of each command. */
+static bool our_fields(unsigned low, struct command *c)
 {
-    unsigned low = word & 0x0FFF, count = (low >> 8) + 1;
-    memset(c, 0, sizeof *c);
-    c->number = word >> 12;
+    unsigned count = (low >> 8) + 1;
     switch (c->number) {
     case 2: case 3:
         c->data = low + 1;
@@ -652,6 +676,48 @@ static bool decode(uint16_t word, struct command *c)
     }
 }
 
+/* 02 item 7, sheet table 7-2, the maker's layout. A data_length of 0 means one word, an opt_data_length of 0 none (sheet 7.5.3). A fixed
+ * field has the table's value or the word is malformed. The address limit is 12 here too. */
+static bool makers_fields(unsigned low, struct command *c)
+{
+    unsigned count = (low & 15) + 1;
+    switch (c->number) {
+    case 2: case 3:                     /* data_length 8..0 below a fixed 0, or 11..0 */
+        c->data = low + 1;
+        return c->number == 3 || low >> 9 == 0;
+    case 4: case 5:                     /* opt_data_length 11..7, extra_end_bytes 6..0 */
+        c->data = low >> 7;
+        c->ends = low & 127;
+        return true;
+    case 6: case 7:                     /* data_length 11..7, extra_end_bytes 6..0 */
+        c->data = (low >> 7) + 1;
+        c->ends = low & 127;
+        return true;
+    case 8: case 9:                     /* a fixed 0, data_length 7..0 */
+        c->reads = (low & 255) + 1;
+        return low >> 8 == 0;
+    case 10: case 11: case 12: case 13: /* a fixed 0 in 11..10, address 9..6, a fixed 0 in 5..4, data_length 3..0 */
+        c->address = low >> 6 & 15;
+        if (c->number <= 11)
+            c->data = count;
+        else
+            c->reads = count;
+        return low >> 10 == 0 && (low >> 4 & 3) == 0 && c->address + count <= REGISTERS;
+    case 14:
+        return low == 0x1E1;
+    default:
+        return false;
+    }
+}
+
+/* The command number is in bits 15..12 of either. */
+static bool decode(const struct bridge *b, uint16_t word, struct command *c)
+{
+    memset(c, 0, sizeof *c);
+    c->number = word >> 12;
+    return b->makers ? makers_fields(word & 0x0FFF, c) : our_fields(word & 0x0FFF, c);
+}
+
 static bool is_forward(const struct command *c)
 {
     return c->number >= 2 && c->number <= 7;
@@ -666,13 +732,13 @@ static bool named_crc(const struct command *c)
 /* 02 item 3: words and the extra ENDs behind them have a place each. */
 static unsigned places_needed(const struct command *c)
 {
-    return (c->data > 0) + (c->ends > 0);
+    return (c->data > 0 ? 1u : 0u) + (c->ends > 0 ? 1u : 0u);
 }
 
 static void queue_forward(struct bridge *b, const struct command *c)
 {
-    struct place words = { .words = c->data, .store = c->number >= 6, .sent_crc = 0xFFFF, .read_crc = 0xFFFF };
-    struct place ends = { .ends = c->ends, .of_pair = c->data > 0, .sent_crc = 0xFFFF, .read_crc = 0xFFFF };
+    struct place words = { .words = c->data, .store = c->number >= 6, .sent_crc = CRC_START, .read_crc = CRC_START };
+    struct place ends = { .ends = c->ends, .of_pair = c->data > 0, .sent_crc = CRC_START, .read_crc = CRC_START };
     if (c->data > 0)
         b->place[b->places++] = words;
     if (c->ends > 0)
@@ -697,6 +763,13 @@ static int release_forward(struct bridge *b)
     return DONE;
 }
 
+/* 02 item 7, sheet 7.5.3: CCITT-FALSE begins with 0xFFFF, as ours does, XMODEM with 0. */
+static uint16_t start_in_force(const struct bridge *b)
+{
+    return b->makers && (b->spictrl & SPI_CRC_ALG) ? XMODEM_START : CRC_START;
+}
+
+/* 02 item 7, sheet 7.3.4.4.3: a change of the algorithm is for the next command, so a frame keeps what its command word found. */
 static int command_word(struct bridge *b, uint16_t word)
 {
     struct frame *f = &b->frame;
@@ -704,13 +777,14 @@ static int command_word(struct bridge *b, uint16_t word)
     if (word == 0xFFFF)                 /* filler */
         return DONE;
     memset(f, 0, sizeof *f);
-    if (!decode(word, &c)) {
+    if (!decode(b, word, &c)) {
         f->phase = DISCARD;
         return MALFORMED;
     }
     f->phase = COLLECT;
     f->cmd = c;
-    f->crc = crc_step(0xFFFF, word);
+    f->start = start_in_force(b);
+    f->crc = crc_step(f->start, word);
     f->blocked = blocking_flag(b);
     if (is_forward(&c) && !named_crc(&c) && c.data == 0)
         return release_forward(b);
@@ -791,10 +865,10 @@ static void settle_drdy(struct bridge *b)
 static void begin_answer(struct bridge *b, int note)
 {
     struct frame *f = &b->frame;
-    bool silent = f->cmd.reads > 0 ? note == BAD_CRC_NAMED : (b->spictrl & 1) != 0;
+    bool silent = f->cmd.reads > 0 ? note == BAD_CRC_NAMED : (b->spictrl & NO_STATUS) != 0;
     f->phase = silent ? IDLE : ANSWER;
     f->left = f->cmd.reads > 0 ? f->cmd.reads + 1 : 2;
-    f->crc = 0xFFFF;
+    f->crc = f->start;
     f->status = status_word(b);
 }
 
@@ -885,10 +959,17 @@ static int chip_select_released(struct bridge *b)
     return CUT_FRAME;
 }
 
+/* 01 "Registers": so many ms in bits 15..8. 02 item 7, sheet table 7-6: a code in bits 13..12. 0 is off. */
+static unsigned watchdog_limit(const struct bridge *b)
+{
+    static const unsigned coded[4] = { 40, 20, 10, 0 };
+    return b->makers ? coded[b->spictrl >> 12 & 3] : b->spictrl >> 8;
+}
+
 /* 01 "The line": elapsed time modulo 65,536. */
 static void clock_reading(struct bridge *b, uint16_t reading)
 {
-    unsigned limit = b->spictrl >> 8;
+    unsigned limit = watchdog_limit(b);
     b->last_reading = reading;
     if (b->sin_watch && (uint16_t)(reading - b->sin_mark) >= SIN_LIMIT_MS) {
         b->flag.sin = true;
@@ -903,7 +984,7 @@ static struct result step(struct bridge *b, unsigned kind, uint16_t value)
     struct result res = { DONE, 0xFFFF, 1 };
     b->stored_end = false;
     switch (kind) {
-    case 0: power_up(b, value == 1); break;
+    case 0: power_event(b, value); break;
     case 1: host_word(b, value, &res); break;
     case 2: res.note = chip_select_released(b); break;
     case 3: line_tick(b, value, &res); break;
@@ -917,10 +998,10 @@ static struct result step(struct bridge *b, unsigned kind, uint16_t value)
 
 /* ---- 01 "The bench program". ---- */
 
-/* One record; 1 good, 0 end of file, -1 wrong or cut. */
+/* One record; 1 good, 0 end of file, -1 wrong or cut. 02 item 7: power goes to 3. */
 static int read_record(FILE *in, unsigned *kind, uint16_t *value)
 {
-    static const uint16_t most[5] = { 1, 0xFFFF, 0, 1, 0xFFFF };
+    static const uint16_t most[5] = { 3, 0xFFFF, 0, 1, 0xFFFF };
     int k = getc(in);
     if (k == EOF)
         return 0;
@@ -948,12 +1029,17 @@ static unsigned next_sout(const struct bridge *b)
     return sender_tick(&copy, &note);
 }
 
+static unsigned next_frame(const struct bridge *b)
+{
+    return !b->makers ? 0 : start_in_force(b) == CRC_START ? 1 : 2;
+}
+
 static void print_event(const struct bridge *b, char mode, unsigned kind, uint16_t value,
                         const struct result *r)
 {
     printf("%u %04X %d %04X %u", kind, value, r->note, r->sdo, r->sout);
     if (mode == 'i')
-        printf(" %u", next_sout(b));
+        printf(" %u %u", next_sout(b), next_frame(b));
     putchar('\n');
     if (mode == 'i')
         fflush(stdout);

@@ -3,7 +3,7 @@
 
 Every expected value below is a literal from the documents or is worked out in the comment
 beside it; nothing is taken from the model. CRC words are computed by binascii (CRC-CCITT,
-start 0xFFFF), not by the model's or the generator's code.
+start 0xFFFF; XMODEM, start 0), not by the model's or the generator's code. "sheet" is document 001.
 """
 import binascii
 import os
@@ -15,8 +15,16 @@ MODEL = os.path.join(HERE, "bridge_model")
 failures = []
 
 
+def crc_from(start, *words):
+    return binascii.crc_hqx(b"".join(w.to_bytes(2, "big") for w in words), start)
+
+
 def crc(*words):
-    return binascii.crc_hqx(b"".join(w.to_bytes(2, "big") for w in words), 0xFFFF)
+    return crc_from(0xFFFF, *words)
+
+
+def xmodem(*words):
+    return crc_from(0, *words)
 
 
 def raw(data):
@@ -35,14 +43,21 @@ class Script:
     def __init__(self):
         self.data = bytearray(b"CWB\x00\x01")
         self.count = 0
+        self.layout(False)
 
     def add(self, kind, value=0):
         self.data += bytes((kind, value >> 8, value & 255))
         self.count += 1
         return self.count - 1
 
-    def power(self, good):
-        return self.add(0, good)
+    def layout(self, makers):
+        """How the frames from here on are written: where an address stands, SOFTRESET_CRC, and the start of the CRC."""
+        self.address_at, self.reset_word, self.start = (6, 0xE1E1, 0xFFFF) if makers else (0, 0xE000, 0xFFFF)
+
+    def power(self, value):
+        """02 item 7: 0 and 1 our layout, 2 and 3 the maker's; bad and good."""
+        self.layout(value >= 2)
+        return self.add(0, value)
 
     def word(self, *values):
         return [self.add(1, v) for v in values][-1]
@@ -58,7 +73,7 @@ class Script:
 
     def frame(self, *words):
         """Command, data and right CRC word; gives the event of the CRC word."""
-        return self.word(*words, crc(*words))
+        return self.word(*words, crc_from(self.start, *words))
 
     def answer(self, count=2):
         """Clocks out an answer; gives its first event."""
@@ -66,18 +81,23 @@ class Script:
 
     def write(self, address, value):
         """REG_WR of one register with its answer; the event of the data word."""
-        self.frame(0xB000 | address, value)
+        self.frame(0xB000 | address << self.address_at, value)
         here = self.count - 2
         self.answer()
         return here
 
     def read(self, address):
         """REG_RD of one register; the event whose SDO is the value."""
-        self.frame(0xD000 | address)
+        self.frame(0xD000 | address << self.address_at)
         return self.answer()
 
+    def algorithm(self, value, start):
+        """SPICTRL written; the frames behind it with this start."""
+        self.write(1, value)
+        self.start = start
+
     def reset(self):
-        here = self.frame(0xE000)
+        here = self.frame(self.reset_word)
         self.answer()
         return here
 
@@ -96,8 +116,14 @@ class Script:
         return [int(self.lines[e][4]) for e in events]
 
 
-def cleared():
+def powered(value=3):
     s = Script()
+    s.power(value)
+    return s
+
+
+def cleared(s=None):
+    s = s or Script()
     s.write(7, 0x8000)
     return s
 
@@ -123,8 +149,11 @@ def check_bench():
     expect("head only", raw(b"CWB\x00\x01"), "")
     for head in (b"", b"C", b"CWB", b"CWB\x00", b"CWB\x01\x00", b"CWB\x00\x02", b"cwb\x00\x01"):
         expect(f"head {head!r}", raw(head), "bad script\n")
-    for bad in ("050000", "000002", "000101", "020001", "030002", "01FF", "01", "FF"):
+    for bad in ("050000", "000004", "000005", "000101", "000103", "008003", "0000FF", "020001", "030002", "030003", "01FF", "01", "FF"):
         expect(f"record {bad}", raw(example + bytes.fromhex(bad)), lines + "bad record\n")
+    # 02 item 7: power-ups of 0 to 3
+    powers = bytes.fromhex("000000" "000002" "000003" "000001")
+    expect("powers", raw(b"CWB\x00\x01" + powers), "".join(f"0 000{value} 0 FFFF 1\n" for value in (0, 2, 3, 1)))
     expect("stops", raw(example + bytes.fromhex("050000030001")), lines + "bad record\n")
     expect("capitals", raw(b"CWB\x00\x01" + bytes.fromhex("04ABCD")), "4 ABCD 0 FFFF 1\n")
 
@@ -917,6 +946,443 @@ def check_number_stops():
     """It stops at 65,535."""
     for right, want in ((65534, 65534), (65535, 65535), (65536 + 5, 65535)):
         expect(f"{right} right words", after_many(right), [want, want, 2])
+
+
+# ---- 02 item 7: the maker's layout, words of sheet table 7-2, registers of sheet 7.6 ----
+XMODEM = 0x00A4                             # SPICTRL as it resets, and SPI_CRC_ALG
+RESETS = [0xED99, 0x00A0, 0x0000, 0x01FF, 0x00FF, 0x0000, 0x0000, 0x0403, 0x0000, 0x0000, 0x0000]   # sheet 7.6.1 to 7.6.11
+
+
+def makers_accept(word):
+    """Sheet table 7-2 with the address limit of 02 item 4, and filler; written down apart from the model."""
+    number, low = word // 4096, word % 4096
+    if number in (3, 4, 5, 6, 7):
+        return True                         # all twelve bits are fields
+    if number == 2:
+        return low // 512 == 0
+    if number in (8, 9):
+        return low // 256 == 0
+    if number in (10, 11, 12, 13):
+        return low // 1024 == 0 and low // 16 % 4 == 0 and low // 64 % 16 + low % 16 + 1 <= 12
+    return word in (0xE1E1, 0xFFFF)
+
+
+def check_makers_words():
+    s = Script()
+    first = {}
+    for word in range(0x10000):
+        s.power(3)
+        first[word] = s.word(word)
+    s.run()
+    edges = {0x21FF: 0, 0x2200: 3, 0x2400: 3, 0x2800: 3, 0x3FFF: 0, 0x4000: 0, 0x5FFF: 0, 0x7FFF: 0, 0x80FF: 0, 0x8100: 3, 0x9800: 3,
+             0xE1E1: 0, 0xE000: 3, 0xE1E0: 3, 0xE0E1: 3, 0xEFFF: 3, 0x01E1: 3, 0x11E1: 3, 0xF1E1: 3, 0xF000: 3, 0xFFFE: 3, 0xFFFF: 0}
+    # address 10, 11, 12 is 0x280, 0x2C0, 0x300. Address + count 10 + 2, 11 + 1, 0 + 12; 10 + 3, 11 + 2, 12 + 1, 0 + 13, 15 + 1 are over 12.
+    # Bits 11, 10, 5 and 4 are fixed.
+    for low, want in ((0x281, 0), (0x2C0, 0), (0x00B, 0), (0x282, 3), (0x2C1, 3), (0x300, 3), (0x00C, 3), (0x3C0, 3),
+                      (0x800, 3), (0x400, 3), (0x020, 3), (0x010, 3)):
+        edges.update({number << 12 | low: want for number in (10, 11, 12, 13)})
+    for word, want in edges.items():
+        expect(f"maker's word {word:04X}", s.note(first[word]), want)
+    wrong = [w for w, e in first.items() if s.note(e) != (0 if makers_accept(w) else 3)]
+    expect("all the maker's command words", wrong, [])
+
+
+def check_makers_resets():
+    """Each register by itself and all with register 11, POR up; with good and bad OTP (01: INIT and its flag). After a clear POR is down."""
+    for power, status in ((3, 0x0403), (2, 0x041B)):
+        want = [status if value == 0x0403 else value for value in RESETS] + [0]
+        s = powered(power)
+        alone = [s.read(address) for address in range(12)]
+        s.frame(0xD00B)                     # address 0, twelve registers
+        first = s.answer(13)
+        s.write(7, 0x8000)
+        after = s.read(7)
+        s.run()
+        name = f"maker's reset values, power {power}"
+        expect(name, [(s.sdo(e), s.sdo(e + 1)) for e in alone], [(value, crc(value)) for value in want])
+        expect(name + ": in one read", [s.sdo(first + i) for i in range(13)], want + [crc(*want)])
+        expect(name + ": cleared", s.sdo(after), 0x0400 if power == 3 else 0x0419)
+
+
+def check_makers_fields():
+    """Sheet 7.5.3: address 0 is 0x00; data_length 0 is one word. The word after the last answer word opens a frame again."""
+    for word, values in ((0xD000, RESETS[:1]), (0xC000, RESETS[:1]), (0xD040, RESETS[1:2]), (0xD0C0, RESETS[3:4]), (0xD001, RESETS[:2]),
+                         (0xC0C4, RESETS[3:8]), (0xD2C0, [0]), (0xD281, [0, 0])):
+        s = powered()
+        s.frame(word)
+        first = s.answer(len(values) + 1)
+        over = s.word(0x0000)
+        s.run()
+        got = [s.sdo(first + i) for i in range(len(values) + 1)]
+        expect(f"maker's read {word:04X}", (got, s.note(over)), (values + [crc(*values)], 3))
+    # DATA_RD of an empty RX: one word, and 256
+    for word, count in ((0x9000, 1), (0x8000, 1), (0x90FF, 256), (0x80FF, 256)):
+        s = powered()
+        s.frame(word)
+        first = s.answer(count + 1)
+        over = s.word(0x0000)
+        s.run()
+        got = [(s.note(first + i), s.sdo(first + i)) for i in range(count + 1)]
+        want = [(15, 0xFFFF)] * count + [(0, crc(*[0xFFFF] * count))]
+        expect(f"maker's read {word:04X}", (got, s.note(over)), (want, 3))
+
+
+def check_makers_forwards():
+    """Sheet 7.5.3: words and ENDs by their fields, the ticks by 01: 19 + 17 x words + 18 x ENDs, or 18 x ENDs. A soft reset one tick before
+    the last is note 11. opt_data_length 0: no words. At most 127 ENDs."""
+    for word, words, ends, ticks in ((0x2000, 1, 0, 36), (0x2003, 4, 0, 87), (0x3000, 1, 0, 36), (0x3013, 20, 0, 359),
+                                     (0x4001, 0, 1, 18), (0x5003, 0, 3, 54), (0x507F, 0, 127, 2286), (0x4080, 1, 0, 36), (0x5102, 2, 2, 89),
+                                     (0x5F80, 31, 0, 546), (0x5FFF, 31, 127, 2832), (0x4FFF, 31, 127, 2832),
+                                     (0x7000, 1, 0, 36), (0x6001, 1, 1, 54), (0x7F80, 32, 0, 563), (0x6FFF, 32, 127, 2849)):
+        data = range(0x8000, 0x8000 + words)
+        for made, note in ((ticks - 1, 11), (ticks, 0)):
+            s = cleared(powered())
+            given = s.frame(word, *data)
+            s.answer()
+            fifo = s.read(9)
+            out = s.ticks([1] * made)
+            reset = s.reset()
+            s.run()
+            line = (command(*data) if words else []) + [1] * 18 * ends
+            name = f"maker's forward {word:04X}, {made} ticks"
+            expect(name, (s.note(given), s.sdo(fifo), s.note(reset)), (0, words, note))
+            expect(name + ": SOUT", s.sout(out), line[:made])
+    for word in (0x4000, 0x5000):           # neither: nothing is queued
+        s = cleared(powered())
+        s.frame(word)
+        s.answer()
+        out = s.ticks([1] * 40)
+        s.run()
+        expect(f"maker's forward {word:04X}", s.sout(out), [1] * 40)
+
+
+def check_makers_lengths():
+    """The words of a frame up to its CRC word, by the longest fields. POR is up, so TX is full with 512 (01: note 8, then 5)."""
+    for word, count, notes in ((0x21FF, 512, [0] * 512), (0x3FFF, 4096, [0] * 512 + [8] + [5] * 3583), (0x31FF, 512, [0] * 512)):
+        s = powered()
+        s.word(word)
+        given = [s.word(at) for at in range(count)]
+        close = s.word(crc(word, *range(count)))
+        status = s.answer()
+        s.run()
+        full = 0x0403 if count == 512 else 0x1403   # TXFF
+        expect(f"maker's longest {word:04X}", ([s.note(e) for e in given], s.note(close), s.sdo(status)), (notes, 0, full))
+    values = (0x1111, 0x00A0, 0x5555, 0x0010, 0x0020, 0, 0x0B01, 0x8000, 0xFFFF, 0xFFFF, 0xFFFF, 0xFFFF)
+    for word in (0xA00B, 0xB00B):           # twelve registers from address 0
+        s = powered()
+        given = [s.word(w) for w in (word, *values, crc(word, *values))]
+        s.answer()
+        s.frame(0xD00B)
+        first = s.answer(12)
+        s.run()
+        want = [0xED99, 0x00A0, 0x5555, 0x0010, 0x0020, 0, 0x0B01, 0x0400, 0, 0, 0, 0]
+        expect(f"maker's longest {word:04X}", ({s.note(e) for e in given}, [s.sdo(first + i) for i in range(12)]), ({0}, want))
+
+
+def check_makers_writable():
+    """Sheet table 7-6: 13..12, 7..4, 2, 1, 0 of SPICTRL; the reserved bits read 0. With bit 0 no STATUS comes, with bit 2 the next CRC starts
+    at 0."""
+    for value, kept in ((0xFFFF, 0x30F7), (0xCF08, 0x0000), (0x3000, 0x3000), (0x0050, 0x0050), (0x0004, 0x0004), (0x0002, 0x0002),
+                        (0x0001, 0x0001)):
+        s = powered()
+        s.frame(0xB040, value)
+        if not value & 1:
+            s.answer()
+        s.start = 0 if value & 4 else 0xFFFF
+        got = s.read(1)
+        s.run()
+        expect(f"maker's SPICTRL {value:04X}", (s.sdo(got), s.sdo(got + 1)), (kept, crc_from(s.start, kept)))
+    s = cleared(powered())
+    for address in (0, 2, 3, 4, 6, 8, 9, 10, 11):
+        s.write(address, 0x7FFF)
+    s.frame(0xD00B)
+    first = s.answer(13)
+    s.run()
+    want = [0xED99, 0x00A0, 0x7FFF, 0x01FF, 0x00FF, 0, 0x0B01, 0x0400, 0, 0, 0, 0]
+    expect("maker's writable bits", [s.sdo(first + i) for i in range(13)], want + [crc(*want)])
+
+
+def check_makers_softreset():
+    """Sheet 7.5.4: the CRC of the command is 0xD383, and 0xCE8C by XMODEM. The other one is note 6."""
+    expect("E1E1", (crc(0xE1E1), xmodem(0xE1E1)), (0xD383, 0xCE8C))
+    for value, right, wrong in ((0x00A0, 0xD383, 0xCE8C), (XMODEM, 0xCE8C, 0xD383)):
+        s = powered()
+        s.algorithm(value, 0xFFFF if value == 0x00A0 else 0)
+        good = s.word(0xE1E1, right)
+        status = s.answer()
+        bad = s.word(0xE1E1, wrong)
+        after = s.answer()
+        s.run()
+        expect(f"maker's reset by {right:04X}", [s.note(e) for e in (good, bad)], [0, 6])
+        expect(f"maker's reset by {right:04X}: STATUS", [(s.sdo(e), s.sdo(e + 1)) for e in (status, after)],
+               [(0x0403, crc_from(s.start, 0x0403)), (0x0443, crc_from(s.start, 0x0443))])
+
+
+def check_makers_algorithm():
+    """Sheet 7.3.4.4.3: the next command uses the new algorithm. The frame that turns it, with words before and behind SPICTRL, has the old one
+    for its CRC word and its answer's; a CRC word by the new one is wrong. REG_WR writes all the same (note 7), REG_WR_CRC nothing (note 6)."""
+    for old, new in (((0x00A0, 0xFFFF), (XMODEM, 0)), ((XMODEM, 0), (0x00A0, 0xFFFF))):
+        for words in ((0xB040, new[0]), (0xA040, new[0]), (0xB001, 0, new[0]), (0xA001, 0, new[0]),
+                      (0xB042, new[0], 0x1234, 0x00FF), (0xA042, new[0], 0x1234, 0x00FF)):
+            for right in (True, False):
+                s = cleared(powered())
+                s.algorithm(*old)
+                given = [s.word(word) for word in words]
+                close = s.word(crc_from(old[1] if right else new[1], *words))
+                status = s.answer()
+                turned = right or words[0] & 0xF000 == 0xB000
+                s.start = new[1] if turned else old[1]
+                got = s.read(1)
+                s.run()
+                name = f"maker's algorithm {old[0]:04X} to {new[0]:04X} by {words[0]:04X}, {right}"
+                want = 0 if right else 7 if turned else 6
+                expect(name, ([s.note(e) for e in given], s.note(close)), ([0] * len(words), want))
+                said = 0x0400 if right else 0x0441      # SPI_CRC, ERR
+                expect(name + ": STATUS", (s.sdo(status), s.sdo(status + 1)), (said, crc_from(old[1], said)))
+                kept = new[0] if turned else old[0]
+                expect(name + ": next", (s.sdo(got), s.sdo(got + 1)), (kept, crc_from(s.start, kept)))
+
+
+def check_makers_algorithm_cut():
+    """REG_WR cut behind the word that turned it: the word stands (01 note 12), and the next frame is by the new one. REG_WR_CRC wrote
+    nothing."""
+    for word, start in ((0xB042, 0), (0xA042, 0xFFFF)):
+        s = cleared(powered())
+        s.word(word, XMODEM, 0x1234)
+        cut = s.release()
+        s.start = start
+        got = s.read(0)
+        s.run()
+        expect(f"maker's algorithm, {word:04X} cut", (s.note(cut), s.sdo(got), s.sdo(got + 1)), (12, 0xED99, crc_from(start, 0xED99)))
+
+
+def check_makers_xmodem():
+    """All kinds of frames by XMODEM: 0xFFFF has the CRC 0x1D0F, from 0 on a word of zeros leaves 0. A soft reset leaves registers (01)."""
+    expect("XMODEM of FFFF, of 0", (xmodem(0xFFFF), xmodem(0x0000)), (0x1D0F, 0x0000))
+    s = cleared(powered())
+    s.algorithm(XMODEM, 0)
+    reset = s.reset()
+    s.frame(0x9000)
+    empty = s.answer()
+    s.write(7, 0x8000)
+    first = s.frame(0x7000, 0xAAF0)         # FWD_RD_END of VSYNC
+    s.answer()
+    s.ticks(command(0xAAF0) + [1] * 4)
+    s.frame(0x8000)                         # DATA_RD_CRC
+    data = s.answer()
+    wrong = s.word(0xC000, crc(0xC000))     # REG_RD_CRC by the other one: no answer
+    after = s.read(7)
+    s.run()
+    expect("maker's XMODEM", [s.note(e) for e in (reset, empty, first, data, wrong, after)], [0, 15, 0, 0, 6, 0])
+    expect("maker's XMODEM: answers", [(s.sdo(e), s.sdo(e + 1)) for e in (empty, data, after)],
+           [(0xFFFF, 0x1D0F), (0xAAF0, xmodem(0xAAF0)), (0x0441, xmodem(0x0441))])
+
+
+def check_makers_line_crc():
+    """The line's CRC starts at 0xFFFF whatever SPI_CRC_ALG says: VSYNC that comes back behind a word of zeros has another. From a start of 0 it
+    would have the same, since zeros in front leave 0. The same words back are no error in either."""
+    for value, start in ((0x00A0, 0xFFFF), (XMODEM, 0)):
+        for back, want in (((0x0000, 0xAAF0), 2), ((0xAAF0,), 0), ((0xAAF2,), 2), ((0x0000, 0x0000, 0xAAF0), 2)):
+            s = cleared(powered())
+            s.algorithm(value, start)
+            s.frame(0x3000, 0xAAF0)
+            s.answer()
+            s.ticks(command(*back) + [1] * 20)
+            faces = s.read(8)
+            s.run()
+            expect(f"maker's line CRC, SPICTRL {value:04X}, back {back}", s.sdo(faces), want)
+
+
+def check_makers_watchdog():
+    """Sheet table 7-6: 40, 20, 10 ms and off, by the code; each word marks, so the last filler does. At or over the limit: FAILSAFE, 0x0431."""
+    for value, limit in ((0x00A0, 40), (0x0000, 40), (0x10A0, 20), (0x20A4, 10), (0x1000, 20), (0x20F6, 10)):
+        for mark in (0, 1000, 65530):       # the last goes over the end of the clock
+            s = cleared(powered())
+            s.algorithm(0x30A0, 0xFFFF)     # off, so that the clock can go there
+            s.clock(mark)
+            s.algorithm(value, 0 if value & 4 else 0xFFFF)
+            s.clock((mark + limit - 1) % 65536)
+            near = s.read(7)                # and marks there
+            s.clock((mark + 2 * limit - 2) % 65536)
+            again = s.read(7)
+            s.clock((mark + 3 * limit - 2) % 65536)
+            over = s.read(7)
+            s.run()
+            expect(f"maker's watchdog {value:04X} from {mark}", [s.sdo(e) for e in (near, again, over)], [0x0400, 0x0400, 0x0431])
+    for value in (0x30A0, 0x3000):
+        s = cleared(powered())
+        s.write(1, value)
+        for reading in (10, 50, 1000, 65535, 40):
+            s.clock(reading)
+        off = s.read(7)
+        s.run()
+        expect(f"maker's watchdog {value:04X}", s.sdo(off), 0x0400)
+
+
+def check_makers_watchdog_at_power_up():
+    """It is on, 40 ms, and the mark is 0, before any word and whatever the clock said before. In INIT nothing comes of it (01). Ours is off."""
+    for power, before, reading, want in ((3, 0, 39, 0x0403), (3, 0, 40, 0x0433), (3, 60000, 39, 0x0403), (3, 60000, 40, 0x0433),
+                                         (3, 0, 65535, 0x0433), (2, 0, 65535, 0x041B), (1, 0, 40, 0x0403), (1, 0, 65535, 0x0403)):
+        s = powered()
+        s.clock(before)
+        s.power(power)
+        s.clock(reading)
+        status = s.read(7)
+        s.run()
+        expect(f"watchdog from power {power}, {before}, {reading}", s.sdo(status), want)
+
+
+def check_makers_marks():
+    """Every word marks (01; the sheet's 7.3.4.3 asks for a valid command): filler, a malformed word, one discarded, each word of a frame and of
+    its answer. A release does not. From 30 ms a word, then 39 ms: NORMAL; where nothing marked it is FAILSAFE."""
+    frame = (0xB0C0, 0x01FF, crc(0xB0C0, 0x01FF), 0xFFFF, 0xFFFF)
+    for words in ((0xFFFF,), (0x2200,), (0x2200, 0xFFFF), (0x2200, 0x1234), *(frame[:length] for length in range(1, 6)), ()):
+        s = cleared(powered())
+        for word in words[:-1]:
+            s.word(word)
+        s.clock(30)
+        if words:
+            s.word(words[-1])
+        s.release()
+        s.clock(69)
+        status = s.read(7)
+        s.run()
+        expect(f"maker's marks, {len(words)} from {words[:1]}", s.sdo(status) >> 4 & 3, 0 if words else 3)
+
+
+def check_makers_failsafe():
+    """As 01 has it and not as sheet 7.4.4: what is under way finishes, what waits keeps waiting, forwards are stored and queued, and a soft
+    reset leaves FAILSAFE and the registers. 0x0431: DRDY, FAILSAFE, ERR; with SIN still for 40 ms behind a start bit CCSI too."""
+    s = cleared(powered())
+    s.write(2, 0x1234)
+    offer(s, 0x3000, 0x8001)
+    offer(s, 0x3000, 0x8002)
+    out = s.ticks([1])
+    s.clock(40)                             # in the middle of the first
+    s.word(0x3000, 0x8003, crc(0x3000, 0x8003))
+    status = s.answer()
+    fifo = s.read(9)                        # the start bit is out, and no word taken yet
+    out += s.ticks([1] * 70)
+    s.write(5, 1)
+    out += s.ticks([1] * 72)
+    s.run()
+    expect("maker's FAILSAFE by the watchdog", (s.sdo(status), s.sdo(fifo)), (0x4431, 3))
+    expect("maker's FAILSAFE: SOUT", s.sout(out), command(0x8001) + [1] * 35 + command(0x8002) + command(0x8003))
+    s = cleared(powered())
+    s.write(2, 0x1234)
+    s.write(5, 4)
+    reset = s.reset()
+    status, rate = s.read(7), s.read(2)
+    s.run()
+    expect("maker's FAILSAFE, reset", (s.note(reset), s.sdo(status), s.sdo(rate)), (0, 0x0431, 0x1234))
+
+
+def check_makers_timeout_and_sdo():
+    """Kept without effect: the shortest timeout (sheet table 7-6, 500 us) ends no frame and raises nothing, SDO answers all the same."""
+    s = cleared(powered())
+    s.write(1, 0x3012)
+    s.word(0xB0C0)
+    s.clock(1000)
+    s.word(0x0010)
+    s.clock(30000)
+    close = s.word(crc(0xB0C0, 0x0010))
+    status = s.answer()
+    faces, level, control = s.read(8), s.read(3), s.read(1)
+    s.run()
+    expect("maker's timeout and SDO", (s.note(close), *(s.sdo(e) for e in (status, faces, level, control))), (0, 0x0400, 0, 0x0010, 0x3012))
+
+
+def check_makers_no_answer():
+    """SPI_ACK_DIS as our bit 0: looked at after the CRC word; reads answer."""
+    s = cleared(powered())
+    s.frame(0xB040, 0x00A1)
+    plain_word = s.word(0x0000)             # no answer: a malformed command word
+    four = s.word(0xFFFF)
+    s.release()
+    s.frame(0xE1E1)
+    filler = s.word(0xFFFF)
+    read = s.read(1)
+    s.frame(0xA040, 0x00A0)
+    answer = s.answer()
+    s.run()
+    expect("maker's no answer", ([s.note(e) for e in (plain_word, four, filler)], s.sdo(filler)), ([3, 4, 0], 0xFFFF))
+    expect("maker's no answer, reads", (s.sdo(read), s.sdo(read + 1), s.sdo(answer)), (0x00A1, crc(0x00A1), 0x0400))
+
+
+def check_makers_level():
+    """Sheet 7.6.4: TXFFLVL resets to 511, so a FWD_WR begins with its 512th word or its last. Ours begins with its 64th (02 item 2)."""
+    for power, count, first in ((3, 64, 64), (3, 100, 100), (3, 512, 512), (3, 513, 512), (1, 100, 64), (1, 513, 64)):
+        s = cleared(powered(power))
+        s.word(0x3000 | count - 1, *range(first - 1))
+        held = s.ticks([1] * 20)
+        s.word(first - 1)
+        out = s.ticks([1])
+        s.run()
+        expect(f"level at power {power}, {count} words", (s.sout(held), s.sout(out)), ([1] * 20, [0]))
+
+
+def check_makers_chosen_anew():
+    """By each power-up, whatever was before; the script begins in ours. DEVID tells, and the other layout's reset is malformed. The algorithm
+    and the watchdog are those of a power-up again."""
+    for powers in ((3, 1, 3), (2, 0, 3), (3, 3, 2, 2, 1, 1), (1, 2, 1, 3, 0), (0, 3, 0, 2)):
+        s = Script()
+        seen = [(s.read(0), s.read(1), s.word(0xE1E1), s.release())]
+        for power in powers:
+            if s.address_at:
+                s.algorithm(XMODEM | 0x2000, 0)
+            else:
+                s.write(1, 0x3001)          # 48 ms, no answer
+            s.word(0x3001, 5)               # a frame is open
+            s.power(power)
+            seen.append((s.read(0), s.read(1), s.word(0xE000 if power >= 2 else 0xE1E1), s.release()))
+        s.run()
+        want = [(0xED99, 0x00A0, 3, 0) if power >= 2 else (0, 0, 3, 0) for power in (1, *powers)]
+        got = [(s.sdo(devid), s.sdo(control), s.note(other), s.note(release)) for devid, control, other, release in seen]
+        expect(f"layouts by powers {powers}", got, want)
+
+
+def check_makers_filler_and_discard():
+    """0xFFFF is filler outside a frame, a data word or a CRC word within; a malformed word discards to chip select, a right frame too."""
+    s = cleared(powered())
+    filler = s.word(0xFFFF)
+    three = s.word(0x2200)
+    four = [s.word(word) for word in (0xFFFF, 0xE1E1, 0xD383, 0xFFFF)]
+    s.release()
+    s.frame(0x3000, 0xFFFF)                 # a data word
+    s.answer()
+    fifo = s.read(9)
+    bad = s.word(0xE1E1, 0xFFFF)            # a CRC word
+    s.run()
+    expect("maker's filler", (s.note(filler), s.note(three), [s.note(e) for e in four]), (0, 3, [4] * 4))
+    expect("maker's 0xFFFF in a frame", (s.sdo(fifo), s.note(bad)), (1, 6))
+
+
+def check_makers_behind():
+    """What lies behind is one: places, note 9, register 11. 0x5081 is FWD_WR_END of one word and one END, 0x5001 of an END."""
+    for last, want in (((0x5001,), 9), ((0x3000, 7), 9), ((0x5081, 8), 9), ((0x5000,), 0)):
+        s = powered()
+        notes = [offer(s, 0x5081, word) for word in range(4)]
+        asked = s.word(*last)
+        s.run()
+        expect(f"maker's four pairs, then {last[0]:04X}", [s.note(e) for e in notes + [asked]], [0] * 4 + [want])
+    s = powered()
+    s.ticks(damaged(3))
+    number, written = s.read(11), s.write(11, 0xFFFF)
+    s.write(7, 0x8000)
+    zero = s.read(11)
+    s.run()
+    expect("maker's register 11", (s.sdo(number), s.note(written), s.sdo(zero)), (3, 0, 0))
+
+
+def check_ours_has_one_algorithm():
+    """Bit 2 of our SPICTRL is not writable, and no frame of ours is by XMODEM."""
+    for value, kept in ((0x0004, 0), (0xFFFE, 0xFF00), (0x00F6, 0)):
+        s = cleared()
+        s.write(1, value)
+        control = s.read(1)
+        wrong = s.word(0xE000, xmodem(0xE000))
+        s.run()
+        expect(f"our SPICTRL {value:04X}", (s.sdo(control), s.note(wrong)), (kept, 6))
 
 
 # ---- clock ----

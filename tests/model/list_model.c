@@ -39,14 +39,15 @@ static uint16_t value_of(const unsigned char *record)
     return (uint16_t)(record[1] << 8 | record[2]);
 }
 
-/* 01 "The bench program": the records that are events. */
+/* 01 "The bench program": the records that are events. 02 item 7: a power-up of 0 to 3, which chooses the layout too. */
 static bool is_event(const unsigned char *record)
 {
     uint16_t value = value_of(record);
     switch (record[0]) {
-    case 0: case 3: return value <= 1;
+    case 0:         return value <= 3;
     case 1: case 4: return true;
     case 2:         return value == 0;
+    case 3:         return value <= 1;
     default:        return false;
     }
 }

@@ -43,8 +43,8 @@ class Lists:
         """The low byte alone, or the high byte alone, may be that of an event."""
         draw = self.draw
         kind = record[0] if record[0] in (POWER, RELEASE, TICK) and draw.random() < 0.7 else draw.choice([POWER, RELEASE, TICK])
-        least = 1 if kind == RELEASE else 2
-        value = draw.choice([least, least, 3, 0x80, 0x0100, 0x0101, 0x8001, 0xFF00, 0xFFFF, draw.randint(least, 0xFFFF)])
+        least = {POWER: 4, RELEASE: 1, TICK: 2}[kind]
+        value = draw.choice([least, least, least + 1, 5, 0x80, 0x0100, 0x0101, 0x0103, 0x8001, 0xFF00, 0xFFFF, draw.randint(least, 0xFFFF)])
         return bytes([kind]) + value.to_bytes(2, "big")
 
     def spoiled(self, records):

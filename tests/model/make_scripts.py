@@ -1,10 +1,12 @@
 #!/usr/bin/env python3
 """make_scripts.py SEED EVENTS > file.cwb
 
-Meaningful random CWB scripts for the bridge of document 01 with items 2, 3 and 4 of 02, the same for the same seed.
+Meaningful random CWB scripts for the bridge of document 01 with items 2, 3, 4 and 7 of 02, the same for the same seed.
+A script of an odd seed stays in our layout; in one of an even seed every power-up chooses, mostly the maker's (02 item 7).
 The SIN bits are mostly a loop-back of SOUT, so the C model is driven through a pipe
-(`bridge_model -i`), which also tells the SOUT bit of the next tick. Nothing the model says
-decides more than SIN bits and a few waits: a script is good for any other implementation.
+(`bridge_model -i`), which also tells the SOUT bit of the next tick, and the layout and the CRC
+of the next frame. Nothing the model says decides more than SIN bits, a few waits and how a frame
+is written: a script is good for any other implementation.
 The environment variable BRIDGE_MODEL names a model already built; without it one is built
 beside this file, and again where its source is newer.
 """
@@ -17,20 +19,44 @@ from collections import deque
 HERE = os.path.dirname(os.path.abspath(__file__))
 POWER, WORD, RELEASE, TICK, CLOCK = range(5)
 TELLING = [0xFFFF, 0x0000, 0x7FFF, 0xFFFE, 0x8000, 0x0001, 0xFFFD, 0xAAF0, 0xAA0F]
-AT_POWER_UP = 0x003F  # TXFFLVL
+AT_POWER_UP = 0x003F  # TXFFLVL in our layout
+MAKERS_LEVEL = 0x01FF  # TXFFLVL at power-up in the maker's
+MAKERS_RESET = 0x00A0  # SPICTRL at power-up in the maker's
+CODES = {40: 0x0000, 20: 0x1000, 10: 0x2000, 0: 0x3000}  # its watchdog in ms, 0 is off
+ALGORITHM, SILENT = 0x0004, 0x0001  # its SPI_CRC_ALG; no STATUS answered, in both layouts
+CCITT, XMODEM = 0xFFFF, 0x0000  # starts of the CRC
 PLACES = 8
 REGISTERS = 12  # the address limit of 02 item 4
 NUMBER = 11  # the register of the word that went bad
 END = 18  # ticks of one END, extra or not
 
 
-def crc16(words):
-    crc = 0xFFFF
+def crc16(words, start=CCITT):
+    crc = start
     for word in words:
         crc ^= word
         for _ in range(16):
             crc = (crc << 1 ^ 0x1021) & 0xFFFF if crc & 0x8000 else crc << 1
     return crc
+
+
+def command_word(makers, number, words=1, ends=0, address=0):
+    """By 01's table, or by the sheet's table 7-2 (02 item 7). `words` are a forward's, those to be read, or registers."""
+    if number == 14:
+        low = 0x1E1 if makers else 0
+    elif number in (2, 3, 8, 9):
+        low = words - 1
+    elif number <= 7:
+        field = words if number <= 5 else words - 1
+        low = field << 7 | ends if makers else ends << 5 | field
+    else:
+        low = address << 6 | words - 1 if makers else words - 1 << 8 | address
+    return number << 12 | low
+
+
+# the bits of fixed fields, ours and the maker's; of the reset all are
+FIXED = tuple({2: (9, 10, 11), 8: (8, 9, 10, 11), 9: (8, 9, 10, 11), **dict.fromkeys((10, 11, 12, 13), bits), 14: range(12)}
+              for bits in ((4, 5, 6, 7), (4, 5, 10, 11)))
 
 
 def word_bits(word):
@@ -62,6 +88,7 @@ class Bench:
         os.write(self.fd, bytes(self.script))
         self.limit, self.events = limit, 0
         self.note, self.sdo, self.sout, self.next_sout = 0, 0xFFFF, 1, 1
+        self.makers, self.start = False, CCITT  # of the next frame
         self.blocked = False
 
     def event(self, kind, value=0):
@@ -73,6 +100,7 @@ class Bench:
         part = self.proc.stdout.readline().split()
         self.note, self.sdo = int(part[2]), int(part[3], 16)
         self.sout, self.next_sout = int(part[4]), int(part[5])
+        self.makers, self.start = part[6] != b"0", XMODEM if part[6] == b"2" else CCITT
         self.events += 1
         self.blocked = self.blocked or self.note == 5
 
@@ -93,8 +121,8 @@ class Line:
 
     def choose(self):
         rng = self.rng
-        mode = rng.choices(["loop", "flip", "change", "insert", "stuck1", "stuck0", "own", "noise", "damage"],
-                           [60, 12, 6, 12, 3, 2, 8, 3, 8])[0]
+        mode = rng.choices(["loop", "flip", "change", "insert", "lead", "stuck1", "stuck0", "own", "noise", "damage"],
+                           [60, 12, 6, 12, 4, 3, 2, 8, 3, 8])[0]
         delay = rng.choice([0, 0, 1, 2, 17, 18, 19, rng.randint(0, 40)])
         self.set(mode, delay, rng.choice([0.003, 0.01, 0.03]))
 
@@ -123,6 +151,8 @@ class Line:
         turned = self.mode == "damage" and after_word and (self.number - 1 in self.bad or self.rng.random() < 10 * self.rate)
         if not (self.run > 18 and len(self.fifo) > self.delay):
             self.fifo.append(1 if changed else sout ^ turned)
+        if self.mode == "lead" and self.pos == 0 and sout == 0 and not after_word and self.rng.random() < 0.5:
+            self.fifo.extend(word_bits(0))  # behind the start bit: a CRC that started at 0 would not see it
         if self.mode == "insert" and after_word and self.rng.random() < 0.3:
             for _ in range(self.rng.choice([1, 1, 1, 2, 4])):
                 self.fifo.extend(word_bits(self.rng.choice(TELLING + [0x1234, 0xC0DE])))
@@ -163,27 +193,64 @@ class Line:
 
 class Host:
     """Frames and programs of the host: generators of ('w', word), ('r',), ('t', ticks),
-    ('c', step) and ('p', good)."""
+    ('c', step), ('n', ms before the clock's wrap) and ('p', value)."""
 
-    def __init__(self, rng, bench, line):
-        self.rng, self.bench, self.line = rng, bench, line
+    def __init__(self, rng, bench, line, share):
+        """`share`: of the power-ups, those that choose the maker's layout."""
+        self.rng, self.bench, self.line, self.share = rng, bench, line, share
         self.wrong, self.cut = 0.04, 0.03
+        self.foreign = False                # frames are written in the layout that is not in force
 
     def chance(self, p):
         return self.rng.random() < p
 
+    # ---- the layout (02 item 7) ----
+    def makers(self):
+        return self.bench.makers != self.foreign
+
+    def command(self, number, words=1, ends=0, address=0):
+        return command_word(self.makers(), number, words, ends, address)
+
+    def power_up(self, good=1):
+        return "p", int(good) + 2 * self.chance(self.share)
+
+    def limits(self):
+        """The watchdog's, in ms."""
+        return [40, 40, 20, 20, 10, 10, 0] if self.bench.makers else [1, 2, 3, 5, 10, 255]
+
+    def control(self, limit=None):
+        """SPICTRL with this limit, or the one of power-up; in the maker's layout with one algorithm or the other."""
+        if not self.bench.makers:
+            return (limit or 0) << 8
+        return MAKERS_RESET | CODES[40 if limit is None else limit] | self.rng.choice([0, ALGORITHM])
+
+    def near_wrap(self):
+        """The clock, which the maker's watchdog does not let go far by itself: mostly it is off meanwhile."""
+        guarded = self.bench.makers and self.chance(0.8)
+        if guarded:
+            yield ("r",)
+            yield from self.reg_write(1, [self.control(0)], wrong=0, cut=0)
+        yield "n", self.rng.randint(1, 8)
+        if guarded:
+            yield from self.reg_write(1, [self.control()], wrong=0, cut=0)
+
     # ---- frames ----
+    def wrong_crc(self, words, start):
+        """Of the right one a bit or all turned; by the other algorithm; any word."""
+        rng, crc = self.rng, crc16(words, start)
+        other = crc16(words, start ^ CCITT)
+        return rng.choice([crc ^ 1 << rng.randint(0, 15), crc ^ 0xFFFF, other, other, rng.getrandbits(16)])
+
     def frame(self, words, answers, wrong=None, cut=None):
-        rng = self.rng
+        """By the algorithm that is in force before its command word, whatever its own data words do to SPICTRL."""
+        rng, start = self.rng, self.bench.start
         if self.chance(self.cut if cut is None else cut):
             for word in words[:rng.randint(1, len(words))]:
                 yield "w", word
             yield ("r",)
             return
-        crc = crc16(words)
-        if self.chance(self.wrong if wrong is None else wrong):
-            crc = rng.choice([crc ^ 1 << rng.randint(0, 15), crc ^ 0xFFFF, rng.getrandbits(16)])
-        for word in words + [crc]:
+        spoilt = self.chance(self.wrong if wrong is None else wrong)
+        for word in words + [self.wrong_crc(words, start) if spoilt else crc16(words, start)]:
             yield "w", word
         more = answers if self.chance(0.9) else rng.randint(0, answers + 2)
         for _ in range(more):
@@ -205,43 +272,41 @@ class Host:
         ends = rng.choice([0, 0, 0, 1, 2, 3, 9]) if ends is None else ends
         if number <= 3:
             count = count or small
-            command = number << 12 | count - 1
         elif number <= 5:
             count = rng.choice([0, 0, small, small, 31]) if count is None else count
-            command = number << 12 | ends << 5 | count
         else:
             count = count or rng.choice([small, small, small, 32])
-            command = number << 12 | ends << 5 | count - 1
-        yield from self.frame([command] + self.some_words(count), 2, **how)
+        yield from self.frame([self.command(number, count, ends)] + self.some_words(count), 2, **how)
 
     def data_read(self, count=None, **how):
         count = count or self.rng.choice([1, 1, 2, 3, 5, 17, self.rng.randint(1, 256)])
         number = self.rng.choice([8, 9])
-        yield from self.frame([number << 12 | count - 1], count + 1, **how)
+        yield from self.frame([self.command(number, count)], count + 1, **how)
 
     def reg_write(self, address, values, number=None, **how):
         number = number or self.rng.choice([10, 11])
-        command = number << 12 | len(values) - 1 << 8 | address
-        yield from self.frame([command] + list(values), 2, **how)
+        yield from self.frame([self.command(number, len(values), address=address)] + list(values), 2, **how)
 
     def reg_read(self, address=None, count=None, **how):
         rng = self.rng
         address = rng.randrange(REGISTERS) if address is None else address
         count = count or rng.randint(1, REGISTERS - address)
         number = rng.choice([12, 13])
-        yield from self.frame([number << 12 | count - 1 << 8 | address], count + 1, **how)
+        yield from self.frame([self.command(number, count, address=address)], count + 1, **how)
 
     def observe(self):
         yield from self.reg_read(*self.rng.choice([(0, REGISTERS), (7, 5), (7, 5), (7, 4), (7, 1), (1, 8), (10, 2), (NUMBER, 1)]))
 
     def soft_reset(self, **how):
-        yield from self.frame([0xE000], 2, **how)
+        yield from self.frame([self.command(14)], 2, **how)
 
     def register_value(self, address):
         rng = self.rng
         any_word = rng.getrandbits(16)
         choice = {
-            1: [0, 0, 0, 0x0001, 0x0300, 0x0A00, 0x0500, any_word & 0xFF00, 0],
+            1: [0, 0, any_word & 0x00FE, 0x0001, 0x0300, 0x0A00, 0x0500, any_word & 0xFF00, 0] if not self.bench.makers else
+               [MAKERS_RESET, self.control(), self.control(), self.control(rng.choice(self.limits())), self.control() | SILENT,
+                self.control(rng.choice(self.limits())) | SILENT, any_word & ~SILENT, any_word & ~SILENT, any_word],
             3: [0x01FF, 0x01FF, AT_POWER_UP, AT_POWER_UP, 62, 64, 0, 1, 3, 0x8000, 0x81FF, 0x803F, 0x8003, any_word],
             4: [0x00FF, 0, 1, 3, 0x8000, 0x80FF, 0x8002, any_word, 0x00FE],
             5: [0, 1, 4, 5, 1, any_word],
@@ -260,7 +325,8 @@ class Host:
             level = rng.choice([0x01FF, 0x01FF, AT_POWER_UP, 62, 64, 0, 2])
             yield from self.reg_write(3, [level, rng.choice([0xFF, 0, 2])], wrong=0, cut=0)
         if self.chance(0.5):
-            yield from self.reg_write(1, [rng.choice([0, 0, 0x2000])], wrong=0, cut=0)
+            value = rng.choice([self.control(), self.control(), self.control(0)]) if self.bench.makers else rng.choice([0, 0, 0x2000])
+            yield from self.reg_write(1, [value], wrong=0, cut=0)
 
     def empty(self, p):
         """Queue and stores emptied, with chance p."""
@@ -273,9 +339,12 @@ class Host:
     def start_over(self, levels):
         """TX and queue empty, NORMAL, no flag, at one of these levels: by a power-up where it can be, half the time."""
         level = self.rng.choice(levels)
+        power = self.power_up()
         yield ("r",)
-        if level == AT_POWER_UP and self.chance(0.5):
-            yield "p", 1
+        if level == (AT_POWER_UP if power[1] < 2 else MAKERS_LEVEL) and self.chance(0.5):
+            yield power
+            if power[1] >= 2 and self.chance(0.4):
+                yield from self.reg_write(1, [self.control()], wrong=0, cut=0)
             yield from self.reg_write(7, [0x8000], wrong=0, cut=0)
         else:
             yield from self.reg_write(5, [1, 0, 0x8000], wrong=0, cut=0)
@@ -315,7 +384,7 @@ class Host:
     def quiet(self, levels):
         """The line gives back what it gets, soon, late, changed or never; queue and TX empty, sender idle, mostly the reader too."""
         rng = self.rng
-        mode = rng.choice(["loop", "loop", "loop", "loop", "change", "change", "change", "stuck1", "insert", "own"])
+        mode = rng.choice(["loop", "loop", "loop", "loop", "change", "change", "change", "stuck1", "insert", "lead", "own"])
         self.line.set(mode, rng.choice([0, 0, 0, 0, 1, 2, 17, 18, 19, 36, 40, 60]), 0.05)
         yield from self.start_over(levels)
         yield "t", 40
@@ -324,7 +393,7 @@ class Host:
         """Nothing starts: by POR, in FAILSAFE, or because no tick comes."""
         how = self.rng.choice(["power", "force", "no tick"])
         if how == "power":
-            yield "p", 1
+            yield self.power_up()
         elif how == "force":
             yield from self.reg_write(5, [4], wrong=0, cut=0)
 
@@ -355,11 +424,10 @@ class Host:
     def limit_word(self):
         """A frame of a register command with address + count 12, or 13, which is over the limit."""
         rng = self.rng
-        number, low = rng.randint(10, 13), rng.choice([0x10A, 0x00B, 0xB00, 0x10B, 0x00C, 0xC00])
-        address, count = low & 15, (low >> 8) + 1
+        number, (address, count) = rng.randint(10, 13), rng.choice([(10, 2), (11, 1), (0, 12), (11, 2), (12, 1), (0, 13)])
         words = [self.register_value(address + i) for i in range(count)] if number <= 11 else []
         yield ("r",)
-        yield from self.frame([number << 12 | low] + words, 2 if words else count + 1)
+        yield from self.frame([self.command(number, count, address=address)] + words, 2 if words else count + 1)
         yield ("r",)
 
     def bad_line(self, right):
@@ -412,7 +480,7 @@ class Host:
                 words[at + 1] &= 0x7FFF     # the 0 behind the seventeen
         self.line.set("damage", delay, 0, {at, rng.choice([at, rng.randrange(count)])})
         yield ("r",)
-        yield from self.frame([number << 12 | ends << 5 | (count if number in (4, 5) else count - 1)] + words, 2, wrong=0, cut=0)
+        yield from self.frame([self.command(number, count, ends)] + words, 2, wrong=0, cut=0)
         yield from self.ticks_with_trouble(1 + 17 * count + END * (1 + ends) + delay + 2, 1 + 17 * (at + 1) + delay)
 
     def between(self):
@@ -435,7 +503,7 @@ class Host:
         elif kind == "v":
             yield from self.reg_write(7, [rng.choice([0x7FFF, 0, rng.getrandbits(15)])], wrong=0, cut=0)
         else:
-            yield "p", int(self.chance(0.7))
+            yield self.power_up(self.chance(0.7))
 
     # ---- programs, one a phase ----
     def one_frame(self):
@@ -507,8 +575,7 @@ class Host:
             number = rng.choice([3, 5, 7])
             count = rng.randint(3, 12)
             ends = rng.choice([0, 0, 2]) if number > 3 else 0
-            command = number << 12 | ends << 5 | (count if number == 5 else count - 1)
-            words = [command] + self.some_words(count)
+            words, start = [self.command(number, count, ends)] + self.some_words(count), self.bench.start
             early = rng.randint(2, 4)
             for word in words[:early]:
                 yield "w", word
@@ -518,7 +585,7 @@ class Host:
             if self.chance(0.3):
                 yield ("r",)
             else:
-                yield "w", crc16(words)
+                yield "w", crc16(words, start)
                 yield "w", 0xFFFF
                 yield "w", 0xFFFF
             yield "t", rng.choice([0, 10, 40])
@@ -552,7 +619,7 @@ class Host:
         rng = self.rng
         self.wrong = self.cut = 0.01
         if self.chance(0.4):
-            yield "p", 1
+            yield self.power_up()
         elif self.chance(0.3):
             yield from self.reg_write(5, [4], wrong=0, cut=0)
         ahead = rng.choice([7, 8, 8, 9, 12])
@@ -600,6 +667,21 @@ class Host:
             if self.chance(0.5):
                 yield from self.observe()
 
+    def long_ends(self):
+        """Many extra ENDs, with words or alone, and something at their end or near it."""
+        rng = self.rng
+        while True:
+            yield from self.quiet([AT_POWER_UP, 0x01FF])
+            number, ends = rng.randint(4, 7), rng.choice([15, 16, 32, 63, 64, 65, 96, 126, 127])
+            count = rng.choice([0, 1]) if number <= 5 else 1
+            yield from self.forward(number, count, ends, wrong=0, cut=0)
+            if self.chance(0.5):
+                yield from self.single()
+            yield "t", (1 + 17 * count + END) * (count > 0) + END * ends + rng.choice([-1, 0, 0, 1])
+            yield ("r",)
+            yield from rng.choice([self.soft_reset(), self.soft_reset(), self.reg_write(2, [rng.getrandbits(16)]), self.single()])
+            yield "t", rng.choice([1, 20])
+
     def pair_trouble(self):
         """Something comes in the middle of a pair; its bits, and what waits behind it, then."""
         rng = self.rng
@@ -629,9 +711,10 @@ class Host:
         elif kind == "f":
             yield from self.reg_write(5, [4], wrong=0, cut=0)
         elif kind == "w":
-            yield from self.reg_write(1, [0x0100], wrong=0, cut=0)
-            yield "c", rng.choice([1, 2])
-            yield from self.reg_write(1, [0], wrong=0, cut=0)
+            limit = min(limit for limit in self.limits() if limit)
+            yield from self.reg_write(1, [self.control(limit)], wrong=0, cut=0)
+            yield "c", limit + rng.choice([0, 1])
+            yield from self.reg_write(1, [self.control()], wrong=0, cut=0)
         elif kind == "c":
             yield "c", rng.choice([4, 5, 6])
         elif kind == "l":
@@ -648,14 +731,13 @@ class Host:
         while True:
             yield from self.quiet([0])
             number, count = rng.choice([5, 5, 7]), rng.randint(2, 5)
-            command = number << 12 | rng.choice([1, 2, 3]) << 5 | (count if number == 5 else count - 1)
             early = rng.randint(1, count - 1)
-            words = [command] + self.some_words(count)
+            words, start = [self.command(number, count, rng.choice([1, 2, 3]))] + self.some_words(count), self.bench.start
             for word in words[:1 + early]:
                 yield "w", word
             ones = rng.choice([0, 1, rng.randint(1, 16), rng.randint(1, 16), END - 1, END, END + 2])
             yield "t", 1 + 17 * early + ones
-            for word in words[1 + early:] + [crc16(words)] if self.chance(0.85) else []:
+            for word in words[1 + early:] + [crc16(words, start)] if self.chance(0.85) else []:
                 yield "w", word
             yield ("r",)
             if self.chance(0.85):
@@ -712,6 +794,11 @@ class Host:
                 yield "t", rng.choice([560, 600])
                 if self.chance(0.2):
                     yield from self.observe()
+        for _ in range(rng.choice([0, 2, 4])):  # mostly RX is full, and with the flag down storing begins anew
+            self.line.set("loop", rng.choice([0, 0, 3]))
+            yield from self.reg_write(7, [0x8000])
+            yield from self.forward(rng.choice([6, 7]), rng.choice([1, 1, 2]), 0)
+            yield "t", 80
         if self.chance(0.5):
             yield from self.data_read(rng.choice([5, 200, 255, 256]))
 
@@ -732,15 +819,36 @@ class Host:
             if self.chance(0.4):
                 yield from self.observe()
 
+    def malformed_word(self):
+        """A number that is no command's; a bit turned in a fixed field, or two; registers over the limit."""
+        rng, fixed = self.rng, FIXED[self.makers()]
+        kind = rng.choice("nfffl")
+        if kind == "n":
+            return rng.choice([0x0000, 0x1234, 0xF000, 0xFFFE, 0x01E1, 0x11E1, 0xF1E1, rng.choice([0, 1, 15]) << 12 | rng.randrange(0xFFF)])
+        if kind == "l":
+            address, count = rng.choice([(11, 2), (12, 1), (0, 13), (15, 1), (0, 16), (15, 16), (10, 3), (1, 12)])
+            return self.command(rng.randint(10, 13), count, address=address)
+        number = rng.choice([2, 8, 9, 10, 11, 12, 13, 14, 14, 14, 14])
+        address = rng.randrange(REGISTERS)
+        word = self.command(number, rng.randint(1, REGISTERS - address), address=address)
+        for bit in rng.sample(fixed[number], rng.choice([1, 1, 1, 2])):
+            word ^= 1 << bit
+        return word
+
+    def edge_word(self):
+        """The longest of their kind."""
+        number, words, address = self.rng.choice([(2, 512, 0), (3, 4096, 0), (8, 256, 0), (9, 256, 0), (10, 12, 0), (10, 1, 11), (11, 2, 10),
+                                                  (12, 12, 0), (12, 11, 1), (13, 1, 11), (14, 0, 0)])
+        return self.command(number, words, address=address)
+
     def malformed(self):
         rng = self.rng
-        bad = [0x0000, 0x1234, 0x2200, 0x2FFF, 0x8100, 0x9FFF, 0xB010, 0xBF00, 0xC0F0, 0xE001, 0xEFFF, 0xF000, 0xFFFE]
-        good = [0x21FF, 0xA00A, 0xAA00]
         while True:
-            yield "w", rng.choice(bad + good)
-            for _ in range(rng.choice([0, 1, 3])):
-                yield "w", rng.choice([0xFFFF, 0xE000, rng.getrandbits(16)])
-            yield ("r",)
+            for _ in range(rng.choice([1, 1, 4, 12])):
+                yield "w", self.malformed_word() if self.chance(0.8) else self.edge_word()
+                for _ in range(rng.choice([0, 0, 1, 3])):
+                    yield "w", rng.choice([0xFFFF, 0xE000, 0xE1E1, rng.getrandbits(16)])
+                yield ("r",)
             if self.chance(0.5):
                 yield from self.limit_word()
             if self.chance(0.5):
@@ -762,19 +870,101 @@ class Host:
             if self.chance(0.3):
                 yield from self.recover()
 
+    def marking_words(self):
+        """Words of which the last is filler, malformed, discarded, or any of a frame and of its answer: every one marks."""
+        rng, bad, frame = self.rng, self.malformed_word(), [self.command(3), 0x1234]
+        frame += [crc16(frame, self.bench.start), 0xFFFF, 0xFFFF]
+        return rng.choice([[0xFFFF], [bad], [bad, 0xFFFF], [bad, rng.getrandbits(16)], *(frame[:length] for length in range(1, 6))])
+
+    def up_to_limit(self, limit):
+        """Some time, a word that marks, and from there readings to just under the limit, to it or over; nothing between them marks."""
+        rng = self.rng
+        *words, last = self.marking_words()
+        yield ("r",)
+        yield from (("w", word) for word in words)
+        yield "c", rng.randint(0, limit - 1)
+        yield "w", last
+        left = limit + rng.choice([-1, -1, 0, 0, 1])
+        while left > 0:
+            step = rng.choice([left, left, rng.randint(0, left)])
+            yield "c", step
+            left -= step
+            if self.chance(0.3):
+                yield rng.choice([("r",), ("t", 2)])
+
+    def some_readings(self, limit):
+        rng = self.rng
+        for _ in range(rng.randint(1, 8)):
+            yield "c", rng.choice([0, 1, 1, 2, *([limit - 1, limit] if limit > 0 else [9, 10, 19, 20, 39, 40])])
+            if self.chance(0.2):
+                yield rng.choice([("w", 0xFFFF), ("r",)])
+
     def watchdog(self):
         rng = self.rng
         while True:
-            limit = rng.choice([1, 2, 3, 5, 10, 255])
-            yield from self.reg_write(1, [limit << 8], wrong=0, cut=0)
-            for _ in range(rng.randint(1, 8)):
-                yield "c", rng.choice([0, 1, 1, 2, limit - 1, limit])
-                if self.chance(0.2):
-                    yield rng.choice([("w", 0xFFFF), ("r",)])
+            if self.bench.makers and self.chance(0.25):
+                yield self.power_up(self.chance(0.85))  # the maker's is on from here, the mark 0
+                yield "c", rng.choice([1, 20, 39, 39, 40, 40, 41])
+            else:
+                limit = rng.choice(self.limits())
+                yield from self.reg_write(1, [self.control(limit)], wrong=0, cut=0)
+                yield from self.up_to_limit(limit) if limit > 0 and self.chance(0.6) else self.some_readings(limit)
+                yield ("r",)
             yield from self.reg_read(7, 1)
-            if self.chance(0.6):
+            if self.chance(0.85 if self.bench.makers else 0.6):
                 yield from self.reg_write(5, [1])
-            yield from self.forward()
+            if self.chance(0.5):
+                yield from self.forward()
+            if self.chance(0.3):
+                yield "t", rng.choice([1, 20, 40])
+
+    def compared(self):
+        """A word whose CRC is compared, and what became of it: the line's CRC has its own start."""
+        yield ("r",)
+        yield from self.reg_write(5, [1, 0, 0x8000], wrong=0, cut=0)
+        yield from self.frame([self.command(3), self.rng.choice([0xAAF0, 0xAA01])], 2, wrong=0, cut=0)
+        yield "t", 75
+        yield ("r",)
+        yield from self.reg_read(8, 1, wrong=0, cut=0)
+
+    def algorithms(self):
+        """SPICTRL by REG_WR and REG_WR_CRC, alone or among others, mostly with its algorithm turned: the frame keeps the one that its command
+        word found, also for its answer, and a host that forgets so uses the other. Then a frame by the new one, or by the one before."""
+        rng = self.rng
+        if self.chance(0.5):
+            self.line.set("lead", rng.choice([0, 0, 1, 17]))
+        while True:
+            before, number, address = self.bench.start, rng.choice([10, 11, 11]), rng.choice([0, 1, 1, 1])
+            count = rng.choice([2 - address, 2, 3, 4, 6, REGISTERS - address])
+            values = [self.register_value(address + at) for at in range(count)]
+            turned = ALGORITHM if before == CCITT else 0
+            if self.chance(0.6):
+                values[1 - address] = self.control(rng.choice([40, 40, 20, 0]) if self.bench.makers else None) & ~ALGORITHM | turned
+            yield ("r",)
+            yield from self.reg_write(address, values, number, wrong=rng.choice([0, 0, 0.5]), cut=rng.choice([0, 0, 0, 0.3]))
+            if self.chance(0.25):
+                words = [rng.choice([self.command(14), self.command(13, 1, address=1), self.command(12, 1, address=7), self.command(8, 1)])]
+                for word in words + [crc16(words, before)] + [0xFFFF] * 2:
+                    yield "w", word
+            yield from rng.choice([self.forward(), self.soft_reset(), self.data_read(1), self.observe(), self.reg_read(1, 1), self.reg_read(1, 1)])
+            yield from self.compared() if self.chance(0.2) else self.let_go() if self.chance(0.3) else ()
+            if self.chance(0.3):
+                yield "t", rng.choice([1, 36, 60])
+
+    def other_layout(self):
+        """A host that takes the board for one of the other layout: its words, with a CRC of either start; chip select behind each frame."""
+        rng = self.rng
+        while True:
+            self.foreign = self.chance(0.6)
+            self.wrong = 0.3 if self.foreign else 0.04
+            yield from self.one_frame()
+            yield ("r",)
+            self.foreign = False
+            if self.chance(0.2):
+                yield from self.reg_write(5, [1, 0, 0x8000], wrong=0, cut=0)
+                yield from self.reg_write(1, [self.control()], wrong=0, cut=0)
+            if self.chance(0.2):
+                yield "t", rng.choice([1, 20, 60])
 
     def failsafe(self):
         rng = self.rng
@@ -813,7 +1003,7 @@ class Host:
         """Level 0, a released forward cut with its data missing or whole."""
         yield from self.reg_write(3, [0], wrong=0, cut=0)
         count = self.rng.randint(2, 6)
-        words = [0x3000 | count - 1] + self.some_words(count)
+        words = [self.command(3, count)] + self.some_words(count)
         for word in words[:self.rng.randint(2, count + 1)]:
             yield "w", word
             yield "t", self.rng.choice([0, 0, 5, 17])
@@ -821,7 +1011,11 @@ class Host:
 
     def power(self):
         while True:
-            yield "p", int(self.chance(0.7))
+            yield self.power_up(self.chance(0.7))
+            if self.chance(0.3):
+                yield from self.reg_read(0, REGISTERS, wrong=0, cut=0)
+            if self.chance(0.2):
+                yield "c", self.rng.choice([1, 5, 39, 40])
             for _ in range(self.rng.randint(1, 6)):
                 yield from self.one_frame()
             if self.chance(0.7):
@@ -832,7 +1026,7 @@ class Host:
     def chaos(self):
         rng = self.rng
         while True:
-            word = rng.choice([rng.getrandbits(16), 0xFFFF, rng.randint(2, 14) << 12,
+            word = rng.choice([rng.getrandbits(16), 0xFFFF, rng.randint(2, 14) << 12, self.edge_word(),
                                rng.randint(2, 14) << 12 | rng.randint(0, 3)])
             yield "w", word
             if self.chance(0.15):
@@ -843,16 +1037,22 @@ DECK = (["traffic"] * 7 + ["clean_forwards"] * 8 + ["overflow"] * 3 + ["underflo
         + ["near_level"] * 2 + ["long_forward"] + ["queue"] * 4 + ["receive_fill"] + ["registers"] * 3 + ["resets"] * 2
         + ["malformed"] + ["watch"] * 3 + ["watchdog"] * 2 + ["failsafe"] * 2 + ["clears"] * 4
         + ["power"] + ["chaos"] + ["pair_queue"] * 4 + ["pair_freed"] * 6 + ["pair_trouble"] * 7 + ["pair_underflow"] * 5
-        + ["bad_words"] * 14)
+        + ["bad_words"] * 14 + ["long_ends"] + ["algorithms"] * 2 + ["other_layout"] * 2)
+# more of these in a script that has the maker's layout
+MAKERS_DECK = DECK + ["algorithms"] * 8 + ["watchdog"] * 4 + ["malformed"] * 3 + ["other_layout"] + ["power"] * 2 + ["long_ends"]
 SPAN = {"clean_forwards": 900, "overflow": 1500, "receive_fill": 6500, "queue": 900, "power": 250, "chaos": 150,
         "malformed": 250, "near_level": 2000, "long_forward": 12000, "pair_queue": 600, "pair_freed": 900, "pair_trouble": 700,
-        "pair_underflow": 700, "bad_words": 900}
+        "pair_underflow": 700, "bad_words": 900, "long_ends": 500, "algorithms": 350, "other_layout": 250}
 # with hardly a tick that the program does not ask for
-PACED = ("overflow", "queue", "near_level", "long_forward", "pair_queue", "pair_freed", "pair_trouble", "pair_underflow", "bad_words")
+PACED = ("overflow", "queue", "near_level", "long_forward", "pair_queue", "pair_freed", "pair_trouble", "pair_underflow", "bad_words",
+         "long_ends")
 
 
 class Maker:
     def __init__(self, seed, limit):
+        # of the power-ups, those that choose the maker's layout
+        self.share = (0.9, 0, 0.6, 0)[seed % 4]
+        self.deck = MAKERS_DECK if self.share else DECK
         self.rng = random.Random(seed)
         self.bench = Bench(limit)
         self.line = Line(self.rng)
@@ -876,18 +1076,29 @@ class Maker:
                 self.tick()
         elif kind == "c":
             self.clock(action[1])
+        elif kind == "n":
+            self.clock(65536 - self.reading - action[1])
         else:
             self.bench.event(POWER, action[1])
+            if action[1] >= 2 and self.rng.random() < 0.9:
+                self.reading = 0            # the last reading is 0, and the maker's watchdog is on: a later clock is FAILSAFE at once
+
+    def before(self, host):
+        """What stands before a phase."""
+        rng = self.rng
+        if self.share and rng.random() < 0.4:
+            yield host.power_up(rng.random() < 0.97)
+        if rng.random() < 0.3:
+            yield from host.near_wrap()
+        if rng.random() < 0.85:
+            yield from host.recover()
 
     def phase(self, name):
         rng = self.rng
-        host = Host(rng, self.bench, self.line)
+        host = Host(rng, self.bench, self.line, self.share)
         self.line.choose()
-        if rng.random() < 0.3:
-            self.clock(65536 - self.reading - rng.randint(1, 8))
-        if rng.random() < 0.85:
-            for action in host.recover():
-                self.act(action)
+        for action in self.before(host):
+            self.act(action)
         ticks = rng.choice([0, 0, 0.02]) if name in PACED else rng.choice([0, 0, 0.3, 1, 3, 8])
         clocks = rng.choice([0, 0.01, 0.1]) if name != "overflow" else 0
         stop = self.bench.events + SPAN.get(name, rng.randint(200, 600))
@@ -903,7 +1114,7 @@ class Maker:
     def run(self):
         try:
             while True:
-                deck = DECK[:]
+                deck = self.deck[:]
                 self.rng.shuffle(deck)
                 for name in deck:
                     self.phase(name)

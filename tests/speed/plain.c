@@ -54,11 +54,11 @@ static bool ring_holds(const struct ring *r, unsigned size)
     return r->size == size && r->head < size && r->count <= size;
 }
 
-/* OTP is up in INIT alone; the number of a bad word is 0 while CHECK_BIT is down (02 item 4), its type is its range; DRDY says
-   whether RX is empty, and is 0 over the level. */
+/* SPICTRL has bits that its layout lets a host write (02 item 7). OTP is up in INIT alone; the number of a bad word is 0 while
+   CHECK_BIT is down (02 item 4), its type is its range; DRDY says whether RX is empty, and is 0 over the level. */
 static bool registers_hold(const struct bridge *b)
 {
-    return (b->spictrl & ~0xFF01u) == 0 && (b->diagmask & ~0x0B01u) == 0 && b->tx_level < TX_SIZE
+    return (b->spictrl & ~(unsigned)writable_spictrl(b)) == 0 && (b->diagmask & ~0x0B01u) == 0 && b->tx_level < TX_SIZE
         && b->rx_level < RX_SIZE && b->flag.otp == (b->state == INIT) && (b->flag.check_bit || b->check_word == 0)
         && (b->rx.count == 0 ? b->drdy : !(b->rx.count > b->rx_level && b->drdy));
 }
@@ -256,10 +256,10 @@ static uint32_t mixed(uint32_t sum, uint32_t said)
     return sum * 31u + said;
 }
 
-/* A record's kind and value are an event's. */
+/* A record's kind and value are an event's; a power-up's goes to 3 (02 item 7). */
 static bool is_event(unsigned kind, unsigned value)
 {
-    static const uint16_t most[] = { 1, 0xFFFF, 0, 1, 0xFFFF };
+    static const uint16_t most[] = { 3, 0xFFFF, 0, 1, 0xFFFF };
     return kind < sizeof most / sizeof *most && value <= most[kind];
 }
 

@@ -9,7 +9,7 @@ use lib.Dec.{eqb}
 use borrow.Author.Tests.{ltb-true, eqb-true, lt-ltb, le-ltb}
 use Rattle.base.specs.Pick.{pick, and-l, and-r}
 use Rattle.base.specs.Truth.{never}
-use Rattle.command.specs.Layouts.{Layout}
+use Rattle.command.specs.Layouts.{Layouts}
 use Rattle.line.specs.Format.{pieceLength}
 use Rattle.line.specs.declared.Piece.{Piece}
 use Rattle.line.specs.declared.Piece.the-variants.{StartBit}
@@ -89,7 +89,7 @@ tick-unnoted : (b : Bridge) (sin : Bool) (w : ℕ) → isStarve (choose (b .send
 unfolding ticked tickHears tickEnds tickSender sentBy
 tick-unnoted b sin w h = rw h (fed-note _)
 
-module _ (l : Layout) (fits : LayoutFit l) (n : ℕ) (p : 0 < n) where
+module _ (l : Layouts) (fits : LayoutFit l) (n : ℕ) (p : 0 < n) where
   -- A run, as long as its ticks are fed, goes on to where its ticks and the words stored bring it.
   run-goes : (es : List Event) (c : Config) (due lacks : ℕ) → Obeys c → Going (c .bridge .sending) n due lacks → due + ticksIn es ≤ takenAt (n - 1) + 1
       → Uncut l c es → Fed l c es → Going (endOf l c es .bridge .sending) n (due + ticksIn es) (lacks - storedIn l c es)
@@ -111,7 +111,7 @@ module _ (l : Layout) (fits : LayoutFit l) (n : ℕ) (p : 0 < n) where
   fed-first : (c : Config) (e : Event) (es : List Event) (due lacks : ℕ) → Obeys c → Going (c .bridge .sending) n due lacks → Covered c due lacks (e ∷ es)
       → outOf l c e .answer .note ≢ TxEmpty
   unfolding turn turned reacted clocked ticksIn storedIn
-  fed-first c (Power good) es due lacks o g v = rw (obeyed-turn l fits c (Power good) o) (λ q. let z : _≡_ {A = ℕ} 0 1 = cc in absurd (omega arith))
+  fed-first c (Power good layout) es due lacks o g v = rw (obeyed-turn l fits c (Power good layout) o) (λ q. let z : _≡_ {A = ℕ} 0 1 = cc in absurd (omega arith))
   fed-first c (Word w) es due lacks o g v = rw (obeyed-turn l fits c (Word w) o) (of-host _ (tame-word (c .bridge) l w _ .note))
   fed-first c Release es due lacks o g v = rw (obeyed-turn l fits c Release o) (of-host _ (tame-release (c .bridge) (c .bridge .frame .phase) .note))
   fed-first c (Tick sin) es due lacks o g v =
@@ -181,7 +181,7 @@ module _ (s : Sending) (n k lacks : ℕ) (g : Going s n (takenAt k) lacks) (h : 
   due-none may f =
       rw (le-ltb _ _ (due-left .0), lt-ltb 0 (s .sender .left) (omega (arith, due-left .1, h)), le-ltb 0 (s .tx .count) (omega (arith, due-left .1, g .short, f, h)))
 
-module _ (l : Layout) (fits : LayoutFit l) (c : Config) (n a : ℕ) (es : List Event) (b : Begun c n a) (u : Uncut l c es) where
+module _ (l : Layouts) (fits : LayoutFit l) (c : Config) (n a : ℕ) (es : List Event) (b : Begun c n a) (u : Uncut l c es) where
   module _ (f : Fed l c es) (k : ℕ) (h : k < n) (t : tickAfter es ≡ takenAt k) where
     at-word : Going (endOf l c es .bridge .sending) n (takenAt k) (n - a - storedIn l c es)
     unfolding tickAfter takenAt
@@ -219,7 +219,7 @@ module _ (l : Layout) (fits : LayoutFit l) (c : Config) (n a : ℕ) (es : List E
       word-missed f (n - 1) (omega (arith, begun-some c n a b)) t
       (let v : storedIn l c es ≤ takenAt (n - 1) / p = subst (λ (x : ℕ). storedIn l c es ≤ x / p) t w in omega (arith, m, v)) sin
 
-pub how-many-ahead : (l : Layout) → LayoutFit l → HowManyAhead l
+pub how-many-ahead : (l : Layouts) → LayoutFit l → HowManyAhead l
 how-many-ahead l fits c n a es b u = record {
   in-time = λ f k h t w. word-taken l fits c n a es b u f k (omega (arith, h)) t (omega (arith, w));
   too-late = λ f k h t w. word-missed l fits c n a es b u f k (omega (arith, h)) t (omega (arith, w));

@@ -6,10 +6,10 @@ use mathlib.Core.Bool.{true, false}
 use mathlib.Core.List.{List, [], _∷_, _++_}
 use Prim.Native.Nat.{ℕ, _+_, _/_, _≤_}
 use native.Mathlib.Omega.{arith}
-use Rattle.command.specs.Layouts.{ours}
+use Rattle.command.specs.Layouts.{layouts}
 use Rattle.state.specs.Queue.{newPlace}
 use Rattle.state.specs.declared.Note.the-variants.{Done, TxEmpty}
-use Rattle.kept.proofs.Fits.{ours-fits}
+use Rattle.kept.proofs.Fits.{layouts-fit}
 use Rattle.events.specs.declared.Event.{Event}
 use Rattle.events.specs.declared.Event.the-variants.{Word, Tick}
 use Rattle.bridge.specs.Runs.{Config, endOf, ticksIn}
@@ -50,10 +50,10 @@ ahead-2-19 = refl
 
 -- from power-up to the command word
 abbrev asked : Config
-asked = endOf ours from (opening ++ (frame (0xB003 ∷ 0x0000 ∷ []) ++ (Word 0x3001 ∷ [])))
+asked = endOf layouts from (opening ++ (frame (0xB003 ∷ 0x0000 ∷ []) ++ (Word 0x3001 ∷ [])))
 
 -- what the theorem about the level asks can be met: the first data word queues it, and it begins at the next tick
-pub alone : Alone ours asked (Word 0x1111) (newPlace 2 0 false) [] true
+pub alone : Alone layouts asked (Word 0x1111) (newPlace 2 0 false) [] true
 unfolding meets
 alone = record {
   whole = record { stores = record { tx-is = refl; rx-is = refl }; rules = refl; eight = refl };
@@ -68,7 +68,7 @@ alone = record {
 
 -- at the start bit's tick
 abbrev started : Config
-started = startOf ours asked (Word 0x1111) [] true
+started = startOf layouts asked (Word 0x1111) [] true
 
 pub begun : Begun started 2 1
 unfolding meets
@@ -80,12 +80,12 @@ begun = record {
 }
 
 -- 18 ticks, the start bit's among them, then the second word
-pub in-time : noteAfter ours started (ticks 17 ++ (Word 0x2222 ∷ [])) (Tick true) ≡ Done
+pub in-time : noteAfter layouts started (ticks 17 ++ (Word 0x2222 ∷ [])) (Tick true) ≡ Done
 unfolding meets
 in-time = refl
 
 -- 19 ticks before it: the last of them is too late
-pub too-late : noteAfter ours started (ticks 17) (Tick true) ≡ TxEmpty
+pub too-late : noteAfter layouts started (ticks 17) (Tick true) ≡ TxEmpty
 unfolding meets
 too-late = refl
 
@@ -93,23 +93,23 @@ too-late = refl
 abbrev slowest : List Event
 slowest = ticks 17 ++ (Word 0x2222 ∷ (Tick true ∷ []))
 
-pub slowest-uncut : Uncut ours started slowest
+pub slowest-uncut : Uncut layouts started slowest
 unfolding uncut meets
-slowest-uncut = is-uncut ours started slowest refl
+slowest-uncut = is-uncut layouts started slowest refl
 
-slowest-test : paces 18 ours started 1 0 0 slowest ≡ true
+slowest-test : paces 18 layouts started 1 0 0 slowest ≡ true
 unfolding paces onTime puts ticksIn meets
 slowest-test = refl
 
-pub slowest-paces : AtLeastEvery 18 ours started 1 slowest
+pub slowest-paces : AtLeastEvery 18 layouts started 1 slowest
 slowest-paces before sin after q k =
     let n : 0 + tickAfter before ≡ tickAfter before = omega arith in
-    let r : (0 + tickAfter before) / 18 ≤ 0 + storedIn ours started before
-    = is-paced 18 ours started 1 0 0 slowest slowest-test before sin after q (omega (arith, k)) in
-    subst (λ (x : ℕ). x / 18 ≤ storedIn ours started before) n (omega (arith, r))
+    let r : (0 + tickAfter before) / 18 ≤ 0 + storedIn layouts started before
+    = is-paced 18 layouts started 1 0 0 slowest slowest-test before sin after q (omega (arith, k)) in
+    subst (λ (x : ℕ). x / 18 ≤ storedIn layouts started before) n (omega (arith, r))
 
-pub slowest-fed : Fed ours started slowest
+pub slowest-fed : Fed layouts started slowest
 unfolding ahead takenAt ticksIn meets
 slowest-fed =
-    how-many-ahead ours ours-fits started 2 1 slowest begun slowest-uncut .enough 18 (omega arith) (omega arith) (omega arith) slowest-paces
+    how-many-ahead layouts layouts-fit started 2 1 slowest begun slowest-uncut .enough 18 (omega arith) (omega arith) (omega arith) slowest-paces
     (omega arith)

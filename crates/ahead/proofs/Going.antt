@@ -8,7 +8,7 @@ use Prim.Native.Nat.{ℕ, _+_, _-_, _*_, _≤_, _<_}
 use native.Mathlib.Omega.{arith}
 use Rattle.base.specs.Pick.{pick}
 use Rattle.base.specs.Truth.{never}
-use Rattle.command.specs.Layouts.{Layout}
+use Rattle.command.specs.Layouts.{Layouts}
 use Rattle.line.specs.Format.{groupLength, pieceLength}
 use Rattle.state.specs.Frame.{toCome}
 use Rattle.state.specs.Rings.{ringAfter}
@@ -119,12 +119,12 @@ goes-done s n due lacks g (TakeBack x) c h = record { time = g .time; bits = g .
 goes-done s n due lacks g ClearAll c h = never true refl c
 goes-done s n due lacks g ResetAll c h = never true refl c
 
-goes-performed : (l : Layout) (b : Bridge) (clock : Clock) (p : Plan) (n due lacks : ℕ) → Going (b .sending) n due lacks → clears (p .deed) ≡ false
+goes-performed : (l : Layouts) (b : Bridge) (clock : Clock) (p : Plan) (n due lacks : ℕ) → Going (b .sending) n due lacks → clears (p .deed) ≡ false
     → OrderlyBy b p → BridgeRules (performed l b clock p) → Going (performed l b clock p .sending) n due (lacks - puts (p .store))
 unfolding performed
 goes-performed l b clock p n due lacks g c v r =
     goes-done (stored (b .sending) (p .store)) n due _ (goes-stored (b .sending) n due lacks g (p .store)) (p .deed) c
-    (spares (stored (b .sending) (p .store)) (p .deed) (p .phase) _ _ _ _ _ v (concluded-to-come l _ _ (p .phase)) (r .sending .sum))
+    (spares (stored (b .sending) (p .store)) (p .deed) (p .phase) _ _ _ _ _ v (concluded-to-come l _ _ _ (p .phase)) (r .sending .sum))
 
 -- Any event.
 starved-told : (starved full : Bool) → tickNote starved full ≢ TxEmpty → starved ≡ false
@@ -136,11 +136,11 @@ tick-fed : (b : Bridge) (sin : Bool) (w : ℕ) → ticked b sin w .note ≢ TxEm
 unfolding ticked tickHears tickEnds tickSender sentBy
 tick-fed b sin w h = starved-told _ _ h
 
-module _ (l : Layout) (fits : LayoutFit l) (c : Config) (n due lacks : ℕ) (o : Obeys c) (g : Going (c .bridge .sending) n due lacks) where
+module _ (l : Layouts) (fits : LayoutFit l) (c : Config) (n due lacks : ℕ) (o : Obeys c) (g : Going (c .bridge .sending) n due lacks) where
   pub goes-on : (e : Event) → 0 < n → due + ticksIn (e ∷ []) ≤ takenAt (n - 1) + 1 → losing l c e ≡ false → outOf l c e .answer .note ≢ TxEmpty
       → Going (next l c e .bridge .sending) n (due + ticksIn (e ∷ [])) (lacks - puts (planOf l c e .store))
   unfolding next turn turned reacted planOf ticksIn puts isPower
-  goes-on (Power good) p t h f = never true refl h
+  goes-on (Power good layout) p t h f = never true refl h
   goes-on (Word w) p t h f =
       rw (obeyed-turn l fits c (Word w) o)
       (going-as _ n due _ _ _ (omega arith) refl

@@ -10,7 +10,7 @@ use lib.Dec.{ltb}
 use borrow.Author.Tests.{ltb-true, ltb-false, lt-ltb, le-leb, lt-leb}
 use Rattle.base.specs.Truth.{never}
 use Rattle.base.specs.Pick.{pick}
-use Rattle.command.specs.Layouts.{Layout}
+use Rattle.command.specs.Layouts.{Layouts}
 use Rattle.line.specs.declared.Piece.the-variants.{StartBit}
 use Rattle.state.specs.Queue.{waiting, wordsOf}
 use Rattle.state.specs.Rings.{txSize}
@@ -73,13 +73,13 @@ started-ticked b p least sin w r g h =
     let t : Started (b .sending) (advanced _ (b .sending) w) p = started-words b p least w r g _ (chosen (b .sending) (mayStart (b .control))) h in
     record { start-bit = t .start-bit; words = t .words; in-tx = t .«in-tx» }
 
-module _ (l : Layout) (fits : LayoutFit l) where
+module _ (l : Layouts) (fits : LayoutFit l) where
   -- the event that queues it is a host's
   poised-after : (c : Config) (e : Event) (p : Place) → Obeys c → c .bridge .sending .sender .left ≡ 0
       → wordsOf (waiting (c .bridge .sending .queue)) ≡ 0 → planOf l c e .deed ≡ Enqueue p
       → Poised (next l c e .bridge .sending) p (level c + 1)
   unfolding next turn turned reacted planOf
-  poised-after c (Power good) p o i a q = let z : _≡_ {A = ℕ} 0 1 = cc in absurd (omega arith)
+  poised-after c (Power good layout) p o i a q = let z : _≡_ {A = ℕ} 0 1 = cc in absurd (omega arith)
   poised-after c (Word w) p o i a q =
       rw (obeyed-turn l fits c (Word w) o)
       (poised-by l (c .bridge) _ _ p q i a (o .rules) (orderly-word (c .bridge) l w _) (rules-keep l fits (c .bridge) (Word w) 0 _ (o .rules)))
@@ -93,7 +93,7 @@ module _ (l : Layout) (fits : LayoutFit l) where
     stays-poised : (c : Config) (e : Event) → Obeys c → Poised (c .bridge .sending) p least → losing l c e ≡ false → starts c e ≡ false
         → Poised (next l c e .bridge .sending) p least
     unfolding next turn turned reacted planOf isPower
-    stays-poised c (Power good) o g h n = never true refl h
+    stays-poised c (Power good layout) o g h n = never true refl h
     stays-poised c (Word w) o g h n =
         rw (obeyed-turn l fits c (Word w) o)
         (poised-performed p least l (c .bridge) _ _ g (o .rules) h (orderly-word (c .bridge) l w _)
@@ -168,10 +168,10 @@ module _ (l : Layout) (fits : LayoutFit l) where
           (as-many 1 (omega arith) (a .with-words)) (as-many _ (omega (arith, h)) (at-most-all t)) y (omega (arith, n));
     }
 
-pub what-to-write : (l : Layout) → LayoutFit l → WhatToWrite l
+pub what-to-write : (l : Layouts) → LayoutFit l → WhatToWrite l
 what-to-write l fits c e p es sin a = alone-ahead l fits c e p es sin a
 
-pub no-later : (l : Layout) → NoLater l
+pub no-later : (l : Layouts) → NoLater l
 unfolding planOf planned plannedIn dataWord forwardWord forwarded guard asksStore pick
 no-later l c words ends got sum mine reads w h g v r q =
     rw (h, lt-ltb got words g, le-leb (level c + 1) (inTx c + 1) (omega (arith, v)), lt-leb txSize (inTx c) r, q) refl

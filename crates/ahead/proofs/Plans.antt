@@ -7,7 +7,7 @@ use native.Mathlib.Omega.{arith}
 use borrow.Author.Tests.{eqb-true, leb-true, ne-eqb}
 use Rattle.base.specs.Pick.{pick, pick-keeps, and-l, and-r}
 use Rattle.base.specs.Truth.{or-end}
-use Rattle.command.specs.Layouts.{Layout}
+use Rattle.command.specs.Layouts.{Layouts}
 use Rattle.command.specs.declared.Command.{Command}
 use Rattle.command.specs.declared.Command.the-variants.{Filler, Malformed, Forward, DataRead, RegisterWrite, RegisterRead, SoftReset}
 use Rattle.registers.specs.declared.Control.{Control}
@@ -115,11 +115,11 @@ module _ (b : Bridge) where
   unfolding wrongCrc
   orderly-wrong crc mine = pick-keeps (OrderlyBy b) _ _ _ (λ t. refl) (λ t. tt)
 
-  orderly-read : (l : Layout) (crc right : Bool) (reply : Reply) → OrderlyBy b (readClosed l b crc right reply)
+  orderly-read : (l : Layouts) (crc right : Bool) (reply : Reply) → OrderlyBy b (readClosed l b crc right reply)
   unfolding readClosed
   orderly-read l crc right reply = pick-keeps (OrderlyBy b) _ _ _ (λ t. tt) (λ t. pick-keeps (OrderlyBy b) _ _ _ (λ u. tt) (λ u. tt))
 
-  orderly-crc : (l : Layout) (command : Command) (mine : ℕ) (blocked right : Bool) → OrderlyBy b (crcDue l b command mine blocked right)
+  orderly-crc : (l : Layouts) (command : Command) (mine : ℕ) (blocked right : Bool) → OrderlyBy b (crcDue l b command mine blocked right)
   unfolding crcDue forwardClosed registersClosed resetClosed
   orderly-crc l Filler mine blocked right = tt
   orderly-crc l Malformed mine blocked right = tt
@@ -133,22 +133,22 @@ module _ (b : Bridge) where
   orderly-crc l SoftReset mine blocked right =
       pick-keeps (OrderlyBy b) right _ _ (λ t. pick-keeps (OrderlyBy b) _ _ _ (λ u. tt) (λ u. tt)) (λ t. orderly-wrong true mine)
 
-  orderly-answered : (l : Layout) (reply : Reply) (sum x : ℕ) → OrderlyBy b (answered l b reply sum x)
+  orderly-answered : (l : Layouts) (reply : Reply) (sum x : ℕ) → OrderlyBy b (answered l b reply sum x)
   unfolding answered answerWith dataAnswered registerAnswered
   orderly-answered l (Status w) sum x = tt
   orderly-answered l (Data left) sum x = pick-keeps (OrderlyBy b) _ _ _ (λ t. tt) (λ t. tt)
   orderly-answered l (Registers address left) sum x = tt
   orderly-answered l Check sum x = tt
 
-  orderly-planned : (l : Layout) (ph : Phase) (w x : ℕ) → OrderlyBy b (plannedIn l b ph w x)
+  orderly-planned : (l : Layouts) (ph : Phase) (w x : ℕ) → OrderlyBy b (plannedIn l b ph w x)
   unfolding plannedIn
-  orderly-planned l Idle w x = orderly-opened (l .decode w) _
+  orderly-planned l Idle w x = orderly-opened (l .decode (b .control .regs .layout) w) _
   orderly-planned l (Collecting command got sum mine released blocked) w x =
       pick-keeps (OrderlyBy b) _ _ _ (λ t. orderly-data command _ w) (λ t. orderly-crc l command mine blocked _)
   orderly-planned l (Answering reply sum) w x = orderly-answered l reply sum x
   orderly-planned l Discarding w x = tt
 
-  pub orderly-word : (l : Layout) (w x : ℕ) → OrderlyBy b (planned l b w x)
+  pub orderly-word : (l : Layouts) (w x : ℕ) → OrderlyBy b (planned l b w x)
   unfolding planned
   orderly-word l w x = orderly-planned l (b .frame .phase) w x
 
@@ -160,9 +160,9 @@ module _ (b : Bridge) where
   orderly-release Discarding = tt
 
 -- a frame whose end is answered has nothing to bring
-pub concluded-to-come : (l : Layout) (status : Bool) (c : Control) (ph : Phase) → toCome (concluded l status c ph) ≤ toCome ph
+pub concluded-to-come : (l : Layouts) (xmodem status : Bool) (c : Control) (ph : Phase) → toCome (concluded l xmodem status c ph) ≤ toCome ph
 unfolding concluded toCome
-concluded-to-come l status c ph =
+concluded-to-come l xmodem status c ph =
     pick-keeps (λ (q : Phase). toCome q ≤ toCome ph) _ _ _
     (λ t. pick-keeps (λ (q : Phase). toCome q ≤ toCome ph) _ _ _ (λ u. omega arith) (λ u. omega arith))
     (λ t. omega arith)

@@ -8,7 +8,7 @@ use lib.Dec.{leb}
 use borrow.Author.Tests.{leb-true}
 use Rattle.base.specs.Pick.{and-l, and-r}
 use Rattle.base.specs.Truth.{never}
-use Rattle.command.specs.Layouts.{Layout}
+use Rattle.command.specs.Layouts.{Layouts}
 use Rattle.events.specs.declared.Event.{Event}
 use Rattle.events.specs.declared.Event.the-variants.{Power, Word, Release, Tick, Clock as ClockReading}
 use Rattle.bridge.specs.Runs.{Config, next, endOf, ticksIn}
@@ -18,19 +18,19 @@ use Rattle.order.specs.Premises.{losing}
 use Rattle.ahead.specs.Ahead.{tickAfter, puts, storedIn, Uncut}
 use Rattle.ahead.proofs.Ahead.{each-none, each-first}
 
-unfoldable pub uncut : Layout → Config → List Event → Bool
+unfoldable pub uncut : Layouts → Config → List Event → Bool
 uncut l c [] = true
 uncut l c (e ∷ es) = not (losing l c e) && uncut l (next l c e) es
 
 unfoldable pub onTime : ℕ → ℕ → ℕ → ℕ → Event → Bool
-onTime p m t st (Power good) = true
+onTime p m t st (Power good layout) = true
 onTime p m t st (Word w) = true
 onTime p m t st Release = true
 onTime p m t st (Tick sin) = leb m st || leb ((t + 1) / p) st
 onTime p m t st (ClockReading reading) = true
 
 -- t ticks and st words were before it
-unfoldable pub paces : ℕ → Layout → Config → ℕ → ℕ → ℕ → List Event → Bool
+unfoldable pub paces : ℕ → Layouts → Config → ℕ → ℕ → ℕ → List Event → Bool
 paces p l c m t st [] = true
 paces p l c m t st (e ∷ es) = onTime p m t st e && paces p l (next l c e) m (t + ticksIn (e ∷ [])) (st + puts (planOf l c e .store)) es
 
@@ -38,7 +38,7 @@ not-true : (b : Bool) → not b ≡ true → b ≡ false
 not-true true h = never false h refl
 not-true false h = refl
 
-pub is-uncut : (l : Layout) (c : Config) (es : List Event) → uncut l c es ≡ true → Uncut l c es
+pub is-uncut : (l : Layouts) (c : Config) (es : List Event) → uncut l c es ≡ true → Uncut l c es
 unfolding uncut endOf
 is-uncut l c [] h = each-none _
 is-uncut l c (e ∷ es) h = each-first e es _ (not-true _ (and-l _ _ h)) (is-uncut l (next l c e) es (and-r (not (losing l c e)) _ h))
@@ -47,7 +47,7 @@ or-or : (a b : Bool) → (a || b) ≡ true → a ≡ false → b ≡ true
 or-or true b h e = never true refl e
 or-or false b h e = h
 
-pub is-paced : (p : ℕ) (l : Layout) (c : Config) (m t st : ℕ) (es : List Event) → paces p l c m t st es ≡ true
+pub is-paced : (p : ℕ) (l : Layouts) (c : Config) (m t st : ℕ) (es : List Event) → paces p l c m t st es ≡ true
     → (before : List Event) (sin : Bool) (after : List Event) → es ≡ before ++ (Tick sin ∷ after) → st + storedIn l c before < m → (t + tickAfter before) / p ≤ st + storedIn l c before
 unfolding paces onTime storedIn tickAfter
 is-paced p l c m t st [] h [] sin after q k = let z : _≡_ {A = ℕ} 0 1 = cc in absurd (omega arith)

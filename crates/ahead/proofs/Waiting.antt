@@ -7,7 +7,7 @@ use Prim.Native.Nat.{ℕ, _+_, _≤_, _<_}
 use native.Mathlib.Omega.{arith}
 use lib.ListN.{length}
 use Rattle.base.specs.Truth.{never}
-use Rattle.command.specs.Layouts.{Layout}
+use Rattle.command.specs.Layouts.{Layouts}
 use Rattle.state.specs.Facts.{QueueFit}
 use Rattle.state.specs.Frame.{toCome}
 use Rattle.state.specs.Queue.{placeAt, queued, begunOne, waiting, wordsOf}
@@ -160,12 +160,12 @@ module _ (p : Place) (least : ℕ) where
   poised-done s ClearAll ph level count coming mine g f l c v z r = never true refl c
   poised-done s ResetAll ph level count coming mine g f l c v z r = never true refl c
 
-  pub poised-performed : (l : Layout) (b : Bridge) (clock : Clock) (x : Plan) → Poised (b .sending) p least → BridgeRules b → clears (x .deed) ≡ false
+  pub poised-performed : (l : Layouts) (b : Bridge) (clock : Clock) (x : Plan) → Poised (b .sending) p least → BridgeRules b → clears (x .deed) ≡ false
       → OrderlyBy b x → BridgeRules (performed l b clock x) → Poised (performed l b clock x .sending) p least
   unfolding performed stored
   poised-performed l b clock x g i c v r =
       poised-done (stored (b .sending) (x .store)) (x .deed) (x .phase) _ _ _ _ (poised-stored (b .sending) g (x .store)) (i .sending .queue)
-      (i .sending .eight) c v (concluded-to-come l _ _ (x .phase)) (r .sending)
+      (i .sending .eight) c v (concluded-to-come l _ _ _ (x .phase)) (r .sending)
 
 -- The event that queues it, where no word of an earlier command is left to take: by the sum of the record rules what TX lacks of it is to come.
 module _ (s : Sending) (st : Store) (p : Place) (ph : Phase) (least coming mine : ℕ) (i : s .sender .left ≡ 0)
@@ -188,10 +188,10 @@ module _ (s : Sending) (st : Store) (p : Place) (ph : Phase) (least coming mine 
   poised-deed : (d : Deed) → d ≡ Enqueue p → Poises d
   poised-deed d e = subst Poises (sym e) poised-queued
 
-pub poised-by : (l : Layout) (b : Bridge) (clock : Clock) (x : Plan) (p : Place) → x .deed ≡ Enqueue p → b .sending .sender .left ≡ 0
+pub poised-by : (l : Layouts) (b : Bridge) (clock : Clock) (x : Plan) (p : Place) → x .deed ≡ Enqueue p → b .sending .sender .left ≡ 0
     → wordsOf (waiting (b .sending .queue)) ≡ 0 → BridgeRules b
     → OrderlyBy b x → BridgeRules (performed l b clock x) → Poised (performed l b clock x .sending) p (b .control .regs .txfflvl + 1)
 unfolding performed
 poised-by l b clock x p e o a i v r =
-    poised-deed (b .sending) (x .store) p (x .phase) _ _ _ o a (i .sending .queue) (i .sending .eight) (concluded-to-come l _ _ (x .phase)) (x .deed) e v
+    poised-deed (b .sending) (x .store) p (x .phase) _ _ _ o a (i .sending .queue) (i .sending .eight) (concluded-to-come l _ _ _ (x .phase)) (x .deed) e v
     (r .sending)

@@ -5,7 +5,7 @@ use mathlib.Core.Bool.{Bool, false}
 use mathlib.Core.List.{List, [], _∷_, _++_}
 use mathlib.Core.Logic.{_≢_}
 use Prim.Native.Nat.{ℕ, _+_, _-_, _*_, _/_, _≤_, _<_}
-use Rattle.command.specs.Layouts.{Layout}
+use Rattle.command.specs.Layouts.{Layouts}
 use Rattle.line.specs.Format.{groupLength}
 use Rattle.line.specs.declared.Piece.the-variants.{StartBit}
 use Rattle.state.specs.declared.Note.{Note}
@@ -45,7 +45,7 @@ unfoldable pub puts : Store → ℕ
 puts Keep = 0
 puts (Put w) = 1
 
-unfoldable pub storedIn : Layout → Config → List Event → ℕ
+unfoldable pub storedIn : Layouts → Config → List Event → ℕ
 storedIn l c [] = 0
 storedIn l c (e ∷ es) = puts (planOf l c e .store) + storedIn l (next l c e) es
 
@@ -54,18 +54,18 @@ abbrev pub Each : List Event → (List Event → Event → Type 0) → Type 0
 Each es P = (before : List Event) (e : Event) (after : List Event) → es ≡ before ++ (e ∷ after) → P before e
 
 -- the command is not cut: no transmit clear, soft reset or power-up. 01 Registers; What the bridge is
-abbrev pub Uncut : Layout → Config → List Event → Type 0
+abbrev pub Uncut : Layouts → Config → List Event → Type 0
 Uncut l c es = Each es (λ before e. losing l (endOf l c before) e ≡ false)
 
-abbrev pub noteAfter : Layout → Config → List Event → Event → Note
+abbrev pub noteAfter : Layouts → Config → List Event → Event → Note
 noteAfter l c before e = outOf l (endOf l c before) e .answer .note
 
 -- note 13 does not come. 01 Notes
-abbrev pub Fed : Layout → Config → List Event → Type 0
+abbrev pub Fed : Layouts → Config → List Event → Type 0
 Fed l c es = Each es (λ before e. noteAfter l c before e ≢ TxEmpty)
 
 -- one more at least every p ticks, as long as fewer than m have come: before tick p one, before tick 2 p two, and so on. ours (docs/DECISIONS.md)
-abbrev pub AtLeastEvery : ℕ → Layout → Config → ℕ → List Event → Type 0
+abbrev pub AtLeastEvery : ℕ → Layouts → Config → ℕ → List Event → Type 0
 AtLeastEvery p l c m es =
     (before : List Event) (sin : Bool) (after : List Event) → es ≡ before ++ (Tick sin ∷ after) → storedIn l c before < m
     → tickAfter before / p ≤ storedIn l c before
@@ -76,7 +76,7 @@ pub record Takes (c : Config) (n k : ℕ) : Type 0 where
   pub left : c .bridge .sending .sender .left ≡ n - k
 
 -- Any events of a command under way: host words, releases, line bits of any kind and clock readings.
-pub record WordsAhead (l : Layout) (c : Config) (n a : ℕ) (es : List Event) : Type 0 where
+pub record WordsAhead (l : Layouts) (c : Config) (n a : ℕ) (es : List Event) : Type 0 where
   -- WHEN A WORD IS TAKEN. Word k is taken at its tick if more than k words have been in TX since the start bit; if not, that tick is note 13.
   pub in-time : Fed l c es → (k : ℕ) → k < n → tickAfter es ≡ takenAt k → k < a + storedIn l c es → Takes (endOf l c es) n k
   pub too-late : Fed l c es → (k : ℕ) → k < n → tickAfter es ≡ takenAt k → a + storedIn l c es ≤ k → (sin : Bool) → noteAfter l c es (Tick sin) ≡ TxEmpty
@@ -86,7 +86,7 @@ pub record WordsAhead (l : Layout) (c : Config) (n a : ℕ) (es : List Event) : 
   pub too-few : (p : ℕ) → 0 < p → a < ahead n p → Fed l c es → tickAfter es ≡ takenAt (n - 1) → storedIn l c es ≤ tickAfter es / p → (sin : Bool)
       → noteAfter l c es (Tick sin) ≡ TxEmpty
 
-abbrev pub HowManyAhead : Layout → Type 0
+abbrev pub HowManyAhead : Layouts → Type 0
 HowManyAhead l = (c : Config) (n a : ℕ) (es : List Event) → Begun c n a → Uncut l c es → WordsAhead l c n a es
 
 -- A host of a word every 17 ticks, or faster, needs one.

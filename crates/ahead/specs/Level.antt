@@ -4,7 +4,7 @@ use mathlib.Core.Path.{_≡_}
 use mathlib.Core.Bool.{Bool, true, false}
 use mathlib.Core.List.{List}
 use Prim.Native.Nat.{ℕ, _+_, _-_, _≤_, _<_}
-use Rattle.command.specs.Layouts.{Layout}
+use Rattle.command.specs.Layouts.{Layouts}
 use Rattle.command.specs.declared.Command.the-variants.{Forward}
 use Rattle.state.specs.declared.Phase.the-variants.{Collecting}
 use Rattle.state.specs.Rings.{txSize}
@@ -20,7 +20,7 @@ use Rattle.ahead.specs.Ahead.{takenAt, ahead, Begun, Each, Uncut, Fed, A
 
 -- whether the start bit of a command with words goes out at this event. 01 The line
 abbrev pub starts : Config → Event → Bool
-starts c (Power good) = false
+starts c (Power good layout) = false
 starts c (Word w) = false
 starts c Release = false
 starts c (Tick sin) = isStart (choose (c .bridge .sending) (mayStart (c .bridge .control)))
@@ -28,7 +28,7 @@ starts c (ClockReading reading) = false
 
 -- No word of an earlier command is still to be taken: TX holds the words of one frame alone. An END, extra ENDs, and ENDs alone may still go out.
 -- Event e queues that frame's command, and so many events later its start bit goes out, at a tick. 01 Frames; The line
-pub record Alone (l : Layout) (c : Config) (e : Event) (q : Place) (es : List Event) (sin : Bool) : Type 0 where
+pub record Alone (l : Layouts) (c : Config) (e : Event) (q : Place) (es : List Event) (sin : Bool) : Type 0 where
   pub whole : Whole c
   pub none-left : c .bridge .sending .sender .left ≡ 0
   pub none-waits : wordsOf (waiting (c .bridge .sending .queue)) ≡ 0
@@ -39,7 +39,7 @@ pub record Alone (l : Layout) (c : Config) (e : Event) (q : Place) (es : List Ev
   pub then-starts : starts (endOf l (next l c e) es) (Tick sin) ≡ true
 
 -- where its start bit has just gone out
-abbrev pub startOf : Layout → Config → Event → List Event → Bool → Config
+abbrev pub startOf : Layouts → Config → Event → List Event → Bool → Config
 startOf l c e es sin = next l (endOf l (next l c e) es) (Tick sin)
 
 abbrev pub inTx : Config → ℕ
@@ -49,7 +49,7 @@ inTx c = c .bridge .sending .tx .count
 abbrev pub level : Config → ℕ
 level c = c .bridge .control .regs .txfflvl
 
-pub record LevelAhead (l : Layout) (c : Config) (e : Event) (q : Place) (es : List Event) (sin : Bool) : Type 0 where
+pub record LevelAhead (l : Layouts) (c : Config) (e : Event) (q : Place) (es : List Event) (sin : Bool) : Type 0 where
   -- A command of that many words begins; a is what TX holds.
   pub begun : Begun (startOf l c e es sin) (q .words) (inTx (startOf l c e es sin))
   -- THE LEVEL'S WORDS ARE AHEAD: TXFFLVL + 1 of them at least, or all.
@@ -59,12 +59,12 @@ pub record LevelAhead (l : Layout) (c : Config) (e : Event) (q : Place) (es : Li
       → AtLeastEvery p l (startOf l c e es sin) (q .words - inTx (startOf l c e es sin)) more → ticksIn more ≤ takenAt (q .words - 1)
       → Fed l (startOf l c e es sin) more
 
-abbrev pub WhatToWrite : Layout → Type 0
+abbrev pub WhatToWrite : Layouts → Type 0
 WhatToWrite l = (c : Config) (e : Event) (q : Place) (es : List Event) (sin : Bool) → Alone l c e q es sin → LevelAhead l c e q es sin
 
 -- AND NO LATER. A data word of a plain forward, neither blocked nor queued before, with which TX holds TXFFLVL + 1 words queues it, where TX has
 -- room for that word and the queue as many places as it needs. 01 Frames; 02 item 3
-abbrev pub NoLater : Layout → Type 0
+abbrev pub NoLater : Layouts → Type 0
 NoLater l = (c : Config) (words ends got sum mine : ℕ) (reads : Bool) (w : ℕ)
     → c .bridge .frame .phase ≡ Collecting (Forward false words ends reads) got sum mine false false → got < words
     → level c + 1 ≤ inTx c + 1 → inTx c < txSize → lacks (c .bridge .sending .queue) (newPlace words ends reads) ≡ false

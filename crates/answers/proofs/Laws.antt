@@ -2,7 +2,7 @@
 use mathlib.Core.Path.{_≡_}
 use mathlib.Core.Bool.{true, _&&_}
 use Prim.Native.Nat.{ℕ, _+_, _<_, _≤_}
-use Rattle.command.specs.Layouts.{ours}
+use Rattle.command.specs.Layouts.{layouts}
 use Rattle.registers.specs.Registers.{readOf}
 use Rattle.state.specs.declared.Reply.{Reply}
 use Rattle.state.specs.declared.Reply.the-variants.{Status, Registers, Check}
@@ -20,17 +20,17 @@ use Rattle.state.specs.Frame.{replySound}
 use borrow.Author.Tests.{leb-true}
 
 -- an arm of an answer
-pub to-answer : (b : Bridge) (reply k : Reply) (sum w : ℕ) (x : Plan) → reply ≡ k → x ≡ answered ours b k sum w → x ≡ answered ours b reply sum w
+pub to-answer : (b : Bridge) (reply k : Reply) (sum w : ℕ) (x : Plan) → reply ≡ k → x ≡ answered layouts b k sum w → x ≡ answered layouts b reply sum w
 to-answer b reply k sum w x h e = rw h e
 
 pub to-status : (b : Bridge) (reply : Reply) (status sum w : ℕ) (p : Phase) (x : Plan) → reply ≡ Status status
-    → p ≡ Answering Check (ours .crcStep sum status) → x ≡ answerWith b (b .control) LeaveRx Done p status → x ≡ answered ours b reply sum w
+    → p ≡ Answering Check (layouts .crcStep sum status) → x ≡ answerWith b (b .control) LeaveRx Done p status → x ≡ answered layouts b reply sum w
 unfolding answered
 to-status b reply status sum w p x h q e = rw (h, ← q) e
 
 pub to-register : (b : Bridge) (reply : Reply) (address left sum w v : ℕ) (x : Plan) → reply ≡ Registers address left
-    → v ≡ readOf (b .control) (b .sending .tx .count) (b .receiving .rx .count) address → x ≡ registerAnswered ours b address left sum v
-    → x ≡ answered ours b reply sum w
+    → v ≡ readOf (b .control) (b .sending .tx .count) (b .receiving .rx .count) address → x ≡ registerAnswered layouts b address left sum v
+    → x ≡ answered layouts b reply sum w
 unfolding answered
 to-register b reply address left sum w v x h q e = rw (h, ← q) e
 

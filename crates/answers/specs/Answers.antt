@@ -3,7 +3,7 @@ use mathlib.Core.Bool.{false}
 use Prim.Native.Nat.{ℕ, _+_, _-_}
 use lib.Dec.{leb, eqb}
 use Rattle.base.specs.Pick.{pick}
-use Rattle.command.specs.Layouts.{Layout}
+use Rattle.command.specs.Layouts.{Layouts}
 use Rattle.registers.specs.Registers.{readOf}
 use Rattle.registers.specs.Raising.{raisedIn}
 use Rattle.registers.specs.declared.Control.{Control}
@@ -38,7 +38,7 @@ answerWith b c r n p w = record {
 }
 
 -- the oldest word of RX, w; note 15: "RXFFUVF, answer word 0xFFFF"
-unfoldable pub dataAnswered : Layout → Bridge → ℕ → ℕ → ℕ → Plan
+unfoldable pub dataAnswered : Layouts → Bridge → ℕ → ℕ → ℕ → Plan
 dataAnswered l b left sum w =
     pick (eqb (b .receiving .rx .count) 0)
     (answerWith b (raisedIn (b .control) RxUvf) StopRx RxEmpty (Answering next (l .crcStep sum noAnswer)) noAnswer)
@@ -47,12 +47,12 @@ dataAnswered l b left sum w =
     next : Reply
     next = pick (leb left 1) Check (Data (left - 1))
 
-unfoldable pub registerAnswered : Layout → Bridge → ℕ → ℕ → ℕ → ℕ → Plan
+unfoldable pub registerAnswered : Layouts → Bridge → ℕ → ℕ → ℕ → ℕ → Plan
 registerAnswered l b address left sum w =
     answerWith b (b .control) LeaveRx Done
     (Answering (pick (leb left 1) Check (Registers (address + 1) (left - 1))) (l .crcStep sum w)) w
 
-unfoldable pub answered : Layout → Bridge → Reply → ℕ → ℕ → Plan
+unfoldable pub answered : Layouts → Bridge → Reply → ℕ → ℕ → Plan
 answered l b (Status s) sum w = answerWith b (b .control) LeaveRx Done (Answering Check (l .crcStep sum s)) s
 answered l b (Data left) sum w = dataAnswered l b left sum w
 answered l b (Registers address left) sum w =

@@ -4,7 +4,7 @@ ghost use mathlib.Core.Bool.{true};
 ghost use Prim.Native.Nat.{_+_, _-_, _<_};
 ghost use lib.Dec.{leb};
 ghost use Rattle.base.specs.Pick.{pick};
-ghost use Rattle.command.specs.Layouts.{ours};
+ghost use Rattle.command.specs.Layouts.{layouts};
 ghost use Rattle.state.specs.Frame.{replySound};
 ghost use Rattle.answers.specs.Answers.{answerWith, dataAnswered, registerAnswered, answered as answeredOf};
 use plan::NO_ANSWER;
@@ -68,7 +68,7 @@ fn next_registers(address: u16, left: u16) -> Reply
 
 // The phase after a word of the answer.
 fn answering(reply: Reply, sum: u16, word: u16) -> Phase
-    ensures { λ r. ⌜ r ≡ Phase.Answering reply (ours .crcStep sum word) ⌝ }
+    ensures { λ r. ⌜ r ≡ Phase.Answering reply (layouts .crcStep sum word) ⌝ }
 {
     Phase::Answering {
         reply: reply,
@@ -78,7 +78,7 @@ fn answering(reply: Reply, sum: u16, word: u16) -> Phase
 
 // The oldest word of RX.
 fn data_answered(bridge: Bridge, left: u16, sum: u16, word: u16) -> Plan
-    ensures { λ r. ⌜ r ≡ dataAnswered ours bridge left sum word ⌝ }
+    ensures { λ r. ⌜ r ≡ dataAnswered layouts bridge left sum word ⌝ }
 {
     let next = next_data(left);
     let control = bridge.control;
@@ -100,7 +100,7 @@ fn data_answered(bridge: Bridge, left: u16, sum: u16, word: u16) -> Plan
 
 fn register_answered(bridge: Bridge, address: u16, left: u16, sum: u16, word: u16) -> Plan
     requires { ⌜ address < 65535 ⌝ }
-    ensures { λ r. ⌜ r ≡ registerAnswered ours bridge address left sum word ⌝ }
+    ensures { λ r. ⌜ r ≡ registerAnswered layouts bridge address left sum word ⌝ }
 {
     let control = bridge.control;
     let phase = answering(next_registers(address, left), sum, word);
@@ -110,7 +110,7 @@ fn register_answered(bridge: Bridge, address: u16, left: u16, sum: u16, word: u1
 // One word of an answer; `word` is RX's oldest.
 pub fn answered(bridge: Bridge, reply: Reply, sum: u16, word: u16) -> Plan
     requires { ⌜ replySound reply ≡ true ⌝ }
-    ensures { λ r. ⌜ r ≡ answeredOf ours bridge reply sum word ⌝ }
+    ensures { λ r. ⌜ r ≡ answeredOf layouts bridge reply sum word ⌝ }
 {
     let control = bridge.control;
     match reply {

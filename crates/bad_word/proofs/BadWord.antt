@@ -7,7 +7,7 @@ use lib.ListN.{length, take}
 use Rattle.base.specs.Bits.{wordEnd}
 use Rattle.base.specs.Pick.{pick}
 use Rattle.base.specs.Truth.{never, or-true}
-use Rattle.command.specs.Layouts.{Layout}
+use Rattle.command.specs.Layouts.{Layouts}
 use Rattle.line.specs.Format.{Segment, Words, Sixteen}
 use Rattle.line.specs.Reader.{lastNumber, hear}
 use Rattle.line.specs.Damage.{damaged, founds, numbersIn, numbersOf, passesForEnd}
@@ -75,7 +75,7 @@ with-shown : {f : Flags} {r : Receiving} {s : Shown} {e : Ear} (bits : List Bool
     → shownWith (shownBy f) (numbersIn (founds (r .reader .ear) bits)) ≡ shownWith s (numbersIn (founds e bits))
 with-shown bits h = ap₂ (λ (x : Shown) (y : Ear). shownWith x (numbersIn (founds y bits))) (h .shown) (h .ear)
 
-module _ (l : Layout) (fits : LayoutFit l) where
+module _ (l : Layouts) (fits : LayoutFit l) where
   module _ (c : Config) (o : Obeys c) (es : List Event) where
     -- From this state, what the bits of `es` show is what the event's bit and they show from c.
     abbrev On : Event → Bridge → Type 0
@@ -84,7 +84,7 @@ module _ (l : Layout) (fits : LayoutFit l) where
     -- The state that the event's rule gives is such a one.
     reacted-on : (e : Event) (w : ℕ) → Leaves l c e → On e (reacted l (c .bridge) e w (oldest (c .rx) (c .bridge .receiving .rx)) .bridge)
     unfolding reacted sinOf founds planOf isPower
-    reacted-on (Power good) w v = never true refl (v .no-power)
+    reacted-on (Power good layout) w v = never true refl (v .no-power)
     reacted-on (Word word) w v =
         with-shown (sinOf es)
         (host-shown l (c .bridge) _ _ (planned-rises l (c .bridge) word _ (o .rules .control)) (o .rules .control .word) (v .no-reset) (v .no-clear))
@@ -124,7 +124,7 @@ is-some [] n h = cc
 is-some (m ∷ ns) n h = refl
 
 -- A line with one check bit changed, from idle: CHECK_BIT is up, and the register has the number of that word.
-pub register-is-the-word : (l : Layout) (fits : LayoutFit l) (c : Config) (es : List Event) → Whole c → c .bridge .receiving .reader .ear ≡ Quiet
+pub register-is-the-word : (l : Layouts) (fits : LayoutFit l) (c : Config) (es : List Event) → Whole c → c .bridge .receiving .reader .ear ≡ Quiet
     → checkBitOf c ≡ false → Undisturbed l c es
     → (s : List Segment) (before : List ℕ) (w : ℕ) (after : List ℕ) (t : List Segment) → Sixteen s → Words before → w < wordEnd
     → passesForEnd before w after ≡ false → sinOf es ≡ damaged s before w after t
@@ -135,7 +135,7 @@ register-is-the-word l fits c es k q d u s before w after t a b g p e =
     (check-bit l fits c es k u ∙ rw (d, is-some _ _ n), first-kept l fits c es k u ∙ rw (d, first-of _ _ n))
 
 -- All of it.
-pub register-11 : (l : Layout) → LayoutFit l → Register11 l
+pub register-11 : (l : Layouts) → LayoutFit l → Register11 l
 register-11 l fits = record {
   reads-0 = reads-0;
   first-kept = λ c es w u. first-kept l fits c es w u;

@@ -6,7 +6,7 @@ use Prim.Native.Nat.{ℕ}
 use borrow.Author.Tests.{eqb-true}
 use Rattle.base.specs.Pick.{pick, pick-keeps}
 use Rattle.base.specs.Truth.{never}
-use Rattle.command.specs.Layouts.{Layout}
+use Rattle.command.specs.Layouts.{Layouts}
 use Rattle.line.specs.Reader.{hear}
 use Rattle.line.specs.declared.Ear.{Ear}
 use Rattle.line.specs.declared.Found.{Found}
@@ -153,7 +153,7 @@ plan-shown f g (no-number a b) s u = go (f .«check_bit») refl
     go false e = cc (down-none f s e)
 
 -- A plan that is no soft reset and clears no CHECK_BIT leaves all as it is.
-pub host-shown : (l : Layout) (b : Bridge) (clock : Clock) (p : Plan) → Rises b p → badWordSound (b .control .flags) ≡ true
+pub host-shown : (l : Layouts) (b : Bridge) (clock : Clock) (p : Plan) → Rises b p → badWordSound (b .control .flags) ≡ true
     → resetsReader (p .receive) ≡ false → (b .control .flags .«check_bit» ≡ true → p .control .flags .«check_bit» ≡ true)
     → ShowsIn (performed l b clock p) (shownBy (b .control .flags)) (earOf b)
 unfolding performed settled

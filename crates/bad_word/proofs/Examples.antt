@@ -11,7 +11,7 @@ use Rattle.base.specs.Bits.{wordEnd}
 use Rattle.base.specs.Pick.{and-l, and-r}
 use Rattle.crc16.specs.Crc.{crcOf}
 use Rattle.command.specs.Layout.{registerRead}
-use Rattle.command.specs.Layouts.{Layout, ours}
+use Rattle.command.specs.Layouts.{Layouts, layouts}
 use Rattle.line.specs.Format.{Segment, wordBits, endBits, wordsBits, encode, Words, Sixteen}
 use Rattle.line.specs.Reader.{lastNumber}
 use Rattle.line.specs.Damage.{wrongBits, damaged, bitBefore, bitBehind, passesForEnd}
@@ -19,7 +19,7 @@ use Rattle.line.specs.declared.Ear.the-variants.{Quiet}
 use Rattle.registers.specs.Registers.{readOf}
 use Rattle.closing.specs.Closing.{readClosed}
 use Rattle.answers.specs.Answers.{answerWith, registerAnswered, answered}
-use Rattle.kept.proofs.Fits.{ours-fits}
+use Rattle.kept.proofs.Fits.{layouts-fit}
 use Rattle.events.specs.declared.Event.{Event}
 use Rattle.events.specs.declared.Event.the-variants.{Word, Tick}
 use Rattle.bridge.specs.Runs.{Config, Whole, outOf, next, endOf}
@@ -30,7 +30,7 @@ use Rattle.bad_word.specs.BadWord.{register11, checkBitOf, sinOf, resets
 use Rattle.bad_word.proofs.BadWord.{register-is-the-word}
 
 -- Ticks alone disturb nothing, so each line has a run.
-ticks-undisturbed : (l : Layout) (c : Config) (bits : List Bool) → Undisturbed l c (map Tick bits)
+ticks-undisturbed : (l : Layouts) (c : Config) (bits : List Bool) → Undisturbed l c (map Tick bits)
 unfolding planOf isPower resetsReader
 ticks-undisturbed l c [] = tt
 ticks-undisturbed l c (b ∷ bits) =
@@ -57,18 +57,18 @@ from-down = refl
 -- Each line with one check bit changed, as ticks.
 pub on-ticks : (s : List Segment) (before : List ℕ) (w : ℕ) (after : List ℕ) (t : List Segment) → Sixteen s → Words before → w < wordEnd
     → passesForEnd before w after ≡ false
-    → register11 (endOf ours from (map Tick (damaged s before w after t))) ≡ min (length before) lastNumber
+    → register11 (endOf layouts from (map Tick (damaged s before w after t))) ≡ min (length before) lastNumber
 on-ticks s before w after t a b g p =
     let bits : List Bool = damaged s before w after t in
-    register-is-the-word ours ours-fits from _ from-whole from-quiet from-down (ticks-undisturbed ours from bits) s before w after t a b g p
+    register-is-the-word layouts layouts-fit from _ from-whole from-quiet from-down (ticks-undisturbed layouts from bits) s before w after t a b g p
     (ticks-sin bits) .1
 
 -- `Undisturbed` as a test, for runs with host words.
-leaves : Layout → Config → Event → Bool
+leaves : Layouts → Config → Event → Bool
 leaves l c e =
     (not (isPower e) && not (resetsReader (planOf l c e .receive))) && (not (checkBitOf c) || planOf l c e .control .flags .«check_bit»)
 
-undisturbed : Layout → Config → List Event → Bool
+undisturbed : Layouts → Config → List Event → Bool
 undisturbed l c [] = true
 undisturbed l c (e ∷ es) = leaves l c e && undisturbed l (next l c e) es
 
@@ -76,7 +76,7 @@ either : (a b : Bool) → (not a || b) ≡ true → a ≡ true → b ≡ true
 either true b h k = h
 either false b h k = cc
 
-module _ (l : Layout) where
+module _ (l : Layouts) where
   is-left : (c : Config) (e : Event) → leaves l c e ≡ true → Leaves l c e
   unfolding leaves
   is-left c e h = record {
@@ -100,7 +100,7 @@ pub amid : List Event
 amid = opening ++ (map Tick (take 25 line) ++ (frame (0xC00B ∷ []) ++ map Tick (drop 25 line)))
 
 -- It meets the premises.
-amid-undisturbed : undisturbed ours from amid ≡ true
+amid-undisturbed : undisturbed layouts from amid ≡ true
 unfolding amid line undisturbed leaves resetsReader registerRead readClosed answered answerWith registerAnswered
 amid-undisturbed = refl
 
@@ -109,16 +109,16 @@ unfolding amid line sinOf
 amid-sin = refl
 
 -- The register shows word 1.
-pub amid-shows : register11 (endOf ours from amid) ≡ 1
+pub amid-shows : register11 (endOf layouts from amid) ≡ 1
 unfolding line passesForEnd bitBefore bitBehind
 amid-shows =
-    register-is-the-word ours ours-fits from amid from-whole from-quiet from-down (are-undisturbed ours from amid amid-undisturbed)
+    register-is-the-word layouts layouts-fit from amid from-whole from-quiet from-down (are-undisturbed layouts from amid amid-undisturbed)
     [] (0x1234 ∷ []) 0xAAF0 [] [] tt (omega arith, tt) (omega arith) refl amid-sin .1
 
 -- The host reads it: REG_RD_CRC of address 11.
 pub asked : List Event
 asked = amid ++ (Word 0xC00B ∷ Word (crcOf (0xC00B ∷ [])) ∷ [])
 
-pub amid-read : outOf ours (endOf ours from asked) (Word 0xFFFF) .answer .sdo ≡ 1
+pub amid-read : outOf layouts (endOf layouts from asked) (Word 0xFFFF) .answer .sdo ≡ 1
 unfolding asked amid line registerRead readClosed answered answerWith registerAnswered readOf
 amid-read = refl

@@ -7,7 +7,7 @@ use Prim.Native.Nat.{ℕ, _<_, min}
 use lib.ListN.{length, getD}
 use Rattle.base.specs.Bits.{wordEnd}
 use Rattle.base.specs.Pick.{pick}
-use Rattle.command.specs.Layouts.{Layout}
+use Rattle.command.specs.Layouts.{Layouts}
 use Rattle.line.specs.Format.{Segment, Words, Sixteen}
 use Rattle.line.specs.Reader.{lastNumber}
 use Rattle.line.specs.Damage.{damaged, founds, numbersIn, passesForEnd}
@@ -35,7 +35,7 @@ checkBitOf c = c .bridge .control .flags .«check_bit»
 -- the SIN bits of a run
 unfoldable pub sinOf : List Event → List Bool
 sinOf [] = []
-sinOf (Power good ∷ es) = sinOf es
+sinOf (Power good layout ∷ es) = sinOf es
 sinOf (Word w ∷ es) = sinOf es
 sinOf (Release ∷ es) = sinOf es
 sinOf (Tick sin ∷ es) = sin ∷ sinOf es
@@ -62,17 +62,17 @@ resetsReader EmptyRx = false
 resetsReader ResetRx = true
 
 -- An event that leaves the reader to the line and CHECK_BIT up where it is: no power-up, no soft reset, no clear of the flags with CHECK_BIT up.
-pub record Leaves (l : Layout) (c : Config) (e : Event) : Type 0 where
+pub record Leaves (l : Layouts) (c : Config) (e : Event) : Type 0 where
   pub no-power : isPower e ≡ false
   pub no-reset : resetsReader (planOf l c e .receive) ≡ false
   pub no-clear : checkBitOf c ≡ true → planOf l c e .control .flags .«check_bit» ≡ true
 
-abbrev pub Undisturbed : Layout → Config → List Event → Type 0
+abbrev pub Undisturbed : Layouts → Config → List Event → Type 0
 Undisturbed l c [] = Unit {0}
 Undisturbed l c (e ∷ es) = Leaves l c e × Undisturbed l (next l c e) es
 
 -- What is promised of register 11, in a layout.
-pub record Register11 (l : Layout) : Type 0 where
+pub record Register11 (l : Layouts) : Type 0 where
   -- "reads 0 when the flag is down"
   pub reads-0 : (c : Config) → Whole c → checkBitOf c ≡ false → register11 c ≡ 0
   -- "keeps the first such number since the flags were last cleared": with CHECK_BIT up before, what it was

@@ -9,8 +9,11 @@ use lib.ListN.{length, getD, take, drop, set, replicate, drop-of-length-le, leng
 use lib.Seq.{drop-cons, length-take-le, take-append-seam}
 use borrow.Author.Tests.{le-leb}
 use Rattle.base.specs.Pick.{pick-true, pick-false}
-use Rattle.crc16.specs.Crc.{crcOf}
-use Rattle.command.specs.Layouts.{ours}
+use Rattle.layout.specs.declared.Layout.{Layout}
+use Rattle.crc16.specs.Crc.{crcFrom}
+use Rattle.command.specs.Layouts.{startBy, layouts}
+use Rattle.registers.specs.Spictrl.{isXmodemIn}
+use Rattle.registers.specs.declared.Regs.{Regs}
 use Rattle.state.specs.declared.Bridge.{Bridge}
 use Rattle.events.specs.Turn.{out}
 use Rattle.events.specs.declared.Answer.{Answer}
@@ -18,16 +21,17 @@ use Rattle.events.specs.declared.Event.{Event}
 use Rattle.events.specs.declared.Event.the-variants.{Word, Release}
 use Rattle.bridge.specs.Step.{step}
 use Rattle.bridge.specs.Runs.{Config, outOf, leftBy, next, endOf}
-use Rattle.frames.specs.Frames.{Out as FrameOut, frameOf, over, out as wrote, writtenOf}
+use Rattle.frames.specs.Frames.{Out as FrameOut, beside, frameOf, over, out as wrote, writtenOf}
 use Rattle.frames.specs.Orders.{within, commandWord}
 use Rattle.frames.specs.declared.Order.the-variants.{FwdWrCrc}
 use Rattle.frames.specs.declared.Written.{Written}
-use Rattle.frames_found.proofs.HostFrames.{host-frames}
+use Rattle.frames.specs.declared.Written.the-variants.{Frame}
 use Rattle.verdict.specs.Verdicts.{isTaken, verdictBy}
 use Rattle.verdict.specs.declared.Verdict.{Verdict}
 use Rattle.verdict.specs.declared.Verdict.the-variants.{Taken}
 use Rattle.verdict.proofs.Taking.{Finds, taken-facts}
-use Rattle.callup.specs.CallUp.{vsync, given, callUp}
+use Rattle.callup.specs.CallUp.{vsync, given, callUp, callUpTo}
+use Rattle.frames_found.specs.Found.{frameIn}
 use Rattle.callup.proofs.CallUp.{end-append}
 use Rattle.board.specs.Board.{called, refusal, poured, slotOf, emptySlot, emptyBoard, showing, takenOf, callUpOf}
 use Rattle.board.specs.Moments.{config}
@@ -41,14 +45,14 @@ unfolding emptyBoard emptySlot slotOf poured
 to-empty = refl
 
 -- an answered event is one step of the run
-stepped : (b : Bridge) (tx rx : List ℕ) (e : Event) (a : Answer) (t r : List ℕ) → out a t r ≡ step ours b tx rx e
-    → config (a .state) t r ≡ next ours (config b tx rx) e
+stepped : (b : Bridge) (tx rx : List ℕ) (e : Event) (a : Answer) (t r : List ℕ) → out a t r ≡ step layouts b tx rx e
+    → config (a .state) t r ≡ next layouts (config b tx rx) e
 unfolding next outOf
 stepped b tx rx e a t r h = ap leftBy h
 
 -- what is left of a frame ends where the whole does
 pub record Giving (c : Config) (frame : List ℕ) (b : Bridge) (tx rx : List ℕ) (i : ℕ) : Type 0 where
-  pub whole : endOf ours (config b tx rx) (given (drop i frame)) ≡ endOf ours c (given frame)
+  pub whole : endOf layouts (config b tx rx) (given (drop i frame)) ≡ endOf layouts c (given frame)
   pub few : i ≤ length frame
   pub fits : length frame < 2 ^ 64
   pub tx-is : length tx ≡ length (c .tx)
@@ -58,13 +62,13 @@ pub give-begins : (b : Bridge) (tx rx frame : List ℕ) → length frame < 2 ^ 6
 give-begins b tx rx frame h = record { whole = refl; few = omega arith; fits = h; tx-is = refl; rx-is = refl }
 
 module _ (c : Config) (frame : List ℕ) (b : Bridge) (tx rx : List ℕ) (i : ℕ) (v : Giving c frame b tx rx i) (a : Answer) (t r : List ℕ) where
-  pub give-again : i < length frame → out a t r ≡ step ours b tx rx (Word (getD frame i 0)) → length t ≡ length tx → length r ≡ length rx
+  pub give-again : i < length frame → out a t r ≡ step layouts b tx rx (Word (getD frame i 0)) → length t ≡ length tx → length r ≡ length rx
       → Giving c frame (a .state) t r (i + 1)
   unfolding given endOf
   give-again h e p q =
       record {
         whole =
-            subst (λ (d : Config). endOf ours d (given (drop (i + 1) frame)) ≡ endOf ours c (given frame))
+            subst (λ (d : Config). endOf layouts d (given (drop (i + 1) frame)) ≡ endOf layouts c (given frame))
             (sym (stepped b tx rx (Word (getD frame i 0)) a t r e)) (rw add-one (rw (drop-cons frame i 0 h) at (v .whole)));
         few = omega arith;
         fits = v .fits;
@@ -72,7 +76,7 @@ module _ (c : Config) (frame : List ℕ) (b : Bridge) (tx rx : List ℕ) (i : �
         rx-is = q ∙ v .rx-is;
       }
 
-  pub give-ends : length frame ≤ i → out a t r ≡ step ours b tx rx Release → config (a .state) t r ≡ endOf ours c (given frame)
+  pub give-ends : length frame ≤ i → out a t r ≡ step layouts b tx rx Release → config (a .state) t r ≡ endOf layouts c (given frame)
   unfolding given endOf
   give-ends h e = stepped b tx rx Release a t r e ∙ (rw (drop-of-length-le frame h) at (v .whole))
 
@@ -108,36 +112,51 @@ module _ (ws cells : List ℕ) (i : ℕ) (v : Pouring ws cells i) where
 pub part-length : (ws left : List ℕ) (n : ℕ) → length left ≡ 32 → length ws ≤ 30 → n ≡ length ws + 2 → n ≡ length (take n left)
 part-length ws left n l h e = sym (length-take-le n left (omega arith))
 
--- the writer takes 1 to 30 words, and leaves their frame at the buffer's front
-frame-front : (ws left : List ℕ) (answer : Written) → 1 ≤ length ws → length ws ≤ 30
-    → wrote answer left ≡ writtenOf FwdWrCrc ws (replicate 32 0) → take (length ws + 2) left ≡ frameOf FwdWrCrc ws
-frame-front ws left answer a b e =
-    let frame : List ℕ = frameOf FwdWrCrc ws in
-    let head : List ℕ = commandWord FwdWrCrc (length ws) ∷ ws in
-    let w : within FwdWrCrc (length ws) ≡ true = rw (le-leb 1 (length ws) a, le-leb (length ws) 512 (omega arith)) refl in
-    let is : left ≡ over frame (replicate 32 0)
-    = ap (λ (o : FrameOut). o .buffer) (e ∙ host-frames .written FwdWrCrc ws (replicate 32 0) w (omega arith)) in
-    let n : length ws + 2 ≡ length frame = omega (arith, length-append head (crcOf head ∷ [])) in
-    ap₂ (λ (k : ℕ) (x : List ℕ). take k x) n is ∙ take-append-seam frame _
+-- the writer, by what the functions answered for the registers
+pub told-written : (k : Layout) (spictrl : ℕ) (xmodem : Bool) (s : ℕ) (ws buffer left : List ℕ) (answer : Written) → xmodem ≡ isXmodemIn k spictrl
+    → s ≡ startBy xmodem → wrote answer left ≡ writtenOf k s FwdWrCrc ws buffer
+    → wrote answer left ≡ writtenOf k (startBy (isXmodemIn k spictrl)) FwdWrCrc ws buffer
+told-written k spictrl xmodem s ws buffer left answer x y e = e ∙ ap (λ (m : ℕ). writtenOf k m FwdWrCrc ws buffer) (y ∙ ap startBy x)
 
-pub to-forward : (b : Bridge) (tx rx ws left : List ℕ) (answer : Written) (n : ℕ) (g : Bridge) (t r : List ℕ) → 1 ≤ length ws → length ws ≤ 30
-    → wrote answer left ≡ writtenOf FwdWrCrc ws (replicate 32 0) → n ≡ length ws + 2
-    → config g t r ≡ endOf ours (config b tx rx) (given (take n left)) → config g t r ≡ endOf ours (config b tx rx) (given (frameOf FwdWrCrc ws))
-to-forward b tx rx ws left answer n g t r p q e k h =
-    h ∙ ap (λ (x : List ℕ). endOf ours (config b tx rx) (given x)) (ap (λ (m : ℕ). take m left) k ∙ frame-front ws left answer p q e)
+-- it takes 1 to 30 words
+written : (k : Layout) (s : ℕ) (ws : List ℕ) → 1 ≤ length ws → length ws ≤ 30
+    → wrote (Frame (length ws + beside)) (over (frameOf k s FwdWrCrc ws) (replicate 32 0)) ≡ writtenOf k s FwdWrCrc ws (replicate 32 0)
+unfolding writtenOf
+written k s ws a b =
+    let w : within FwdWrCrc (length ws) ≡ true = rw (le-leb 1 (length ws) a, le-leb (length ws) 512 (omega arith)) refl in
+    let l : length ws + beside ≤ length {A = ℕ} (replicate 32 0) = omega arith in
+    pick-true _ _ _ _ w (pick-true _ _ _ _ (le-leb _ _ l) refl)
+
+-- .. and leaves their frame at the buffer's front
+frame-front : (k : Layout) (s : ℕ) (ws left : List ℕ) (answer : Written) → 1 ≤ length ws → length ws ≤ 30
+    → wrote answer left ≡ writtenOf k s FwdWrCrc ws (replicate 32 0) → take (length ws + 2) left ≡ frameOf k s FwdWrCrc ws
+frame-front k s ws left answer a b e =
+    let frame : List ℕ = frameOf k s FwdWrCrc ws in
+    let head : List ℕ = commandWord k FwdWrCrc (length ws) ∷ ws in
+    let is : left ≡ over frame (replicate 32 0) = ap (λ (o : FrameOut). o .buffer) (e ∙ sym (written k s ws a b)) in
+    let n : length ws + 2 ≡ length frame = omega (arith, length-append head (crcFrom s head ∷ [])) in
+    ap₂ (λ (m : ℕ) (x : List ℕ). take m x) n is ∙ take-append-seam frame _
+
+pub to-forward : (b : Bridge) (tx rx : List ℕ) (k : Layout) (s : ℕ) (ws left : List ℕ) (answer : Written) (n : ℕ) (g : Bridge) (t r : List ℕ)
+    → 1 ≤ length ws → length ws ≤ 30 → wrote answer left ≡ writtenOf k s FwdWrCrc ws (replicate 32 0) → n ≡ length ws + 2
+    → config g t r ≡ endOf layouts (config b tx rx) (given (take n left)) → config g t r ≡ endOf layouts (config b tx rx) (given (frameOf k s FwdWrCrc ws))
+to-forward b tx rx k s ws left answer n g t r p q e i h =
+    h ∙ ap (λ (x : List ℕ). endOf layouts (config b tx rx) (given x)) (ap (λ (m : ℕ). take m left) i ∙ frame-front k s ws left answer p q e)
 
 -- both frames, one after the other
 pub to-both : (b : Bridge) (tx rx ws : List ℕ) (g : Bridge) (t r one : List ℕ) (z : Bridge) (u v : List ℕ)
-    → config g t r ≡ endOf ours (config b tx rx) (given (frameOf FwdWrCrc ws)) → one ≡ vsync ∷ []
-    → config z u v ≡ endOf ours (config g t r) (given (frameOf FwdWrCrc one)) → config z u v ≡ endOf ours (config b tx rx) (callUp ws)
+    → config g t r ≡ endOf layouts (config b tx rx) (given (frameIn (b .control .regs) FwdWrCrc ws)) → one ≡ vsync ∷ []
+    → config z u v ≡ endOf layouts (config g t r) (given (frameIn (b .control .regs) FwdWrCrc one))
+    → config z u v ≡ endOf layouts (config b tx rx) (callUpTo (config b tx rx) ws)
 unfolding callUp
 to-both b tx rx ws g t r one z u v h o k =
+    let f : Regs = b .control .regs in
     k
-    ∙ ap₂ (λ (c : Config) (x : List ℕ). endOf ours c (given (frameOf FwdWrCrc x))) h o
-    ∙ sym (end-append ours (config b tx rx) (given (frameOf FwdWrCrc ws)) (given (frameOf FwdWrCrc (vsync ∷ []))))
+    ∙ ap₂ (λ (c : Config) (x : List ℕ). endOf layouts c (given (frameIn f FwdWrCrc x))) h o
+    ∙ sym (end-append layouts (config b tx rx) (given (frameIn f FwdWrCrc ws)) (given (frameIn f FwdWrCrc (vsync ∷ []))))
 
 pub to-taken : (board : Board) (c : Config) (slot reading : ℕ) (ws : List ℕ) (g : Bridge) (t r : List ℕ) (s : Slot)
-    → config g t r ≡ endOf ours c (callUp ws) → s ≡ slotOf reading ws
+    → config g t r ≡ endOf layouts c (callUpTo c ws) → s ≡ slotOf reading ws
     → called (record { board = record { slots = set (board .slots) slot s }; bridge = g; verdict = Taken }) t r ≡ takenOf board c slot reading ws
 unfolding takenOf showing
 to-taken board c slot reading ws g t r s h e =

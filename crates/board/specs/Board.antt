@@ -4,13 +4,13 @@ use mathlib.Core.List.{List, [], _∷_}
 use Prim.Native.Nat.{ℕ, _+_}
 use lib.ListN.{length, set, replicate}
 use Rattle.base.specs.Pick.{pick}
-use Rattle.command.specs.Layouts.{ours}
+use Rattle.command.specs.Layouts.{layouts}
 use Rattle.state.specs.declared.Bridge.{Bridge}
 use Rattle.bridge.specs.Runs.{Config, endOf}
 use Rattle.verdict.specs.Verdicts.{callUpMost, slotCount, isTaken, verdictBy}
 use Rattle.verdict.specs.declared.Verdict.{Verdict}
 use Rattle.verdict.specs.declared.Verdict.the-variants.{Taken}
-use Rattle.callup.specs.CallUp.{callUp}
+use Rattle.callup.specs.CallUp.{callUpTo}
 use Rattle.board.specs.declared.Board.{Board}
 use Rattle.board.specs.declared.Slot.{Slot}
 use Rattle.board.specs.declared.Called.{Called}
@@ -63,8 +63,8 @@ refusedIn board c v = called (refusal board (c .bridge) v) (c .tx) (c .rx)
 -- "It goes out when taken; the reading is only kept."
 unfoldable pub takenOf : Board → Config → ℕ → ℕ → List ℕ → Outcome
 takenOf board c slot reading ws =
-    called (record { board = showing board slot reading ws; bridge = endOf ours c (callUp ws) .bridge; verdict = Taken })
-    (endOf ours c (callUp ws) .tx) (endOf ours c (callUp ws) .rx)
+    called (record { board = showing board slot reading ws; bridge = endOf layouts c (callUpTo c ws) .bridge; verdict = Taken })
+    (endOf layouts c (callUpTo c ws) .tx) (endOf layouts c (callUpTo c ws) .rx)
 
 unfoldable pub callUpOf : Board → Config → ℕ → ℕ → List ℕ → Outcome
 callUpOf board c slot reading ws =

@@ -1,16 +1,20 @@
 // The call-up board (02, item 13): forty slots, and call-ups given to the bridge by its published `step`, in frames of item 1's writer.
 use events::Event;
 use frames::Order;
+use frames::Written;
+use registers::Regs;
 use state::Bridge;
 use verdict::Verdict;
 ghost use mathlib.Core.Path.{_≡_};
 ghost use Prim.Native.Nat.{_≤_};
 ghost use lib.ListN.{length};
-ghost use Rattle.command.specs.Layouts.{ours};
-ghost use Rattle.frames.specs.Frames.{frameOf};
+ghost use Rattle.command.specs.Layouts.{startBy, layouts};
+ghost use Rattle.registers.specs.Spictrl.{isXmodem};
+ghost use Rattle.frames.specs.Frames.{out as wrote, writtenOf};
 ghost use Rattle.frames.specs.declared.Order.the-variants.{FwdWrCrc};
 ghost use Rattle.bridge.specs.Runs.{endOf};
-ghost use Rattle.callup.specs.CallUp.{given, callUp};
+ghost use Rattle.callup.specs.CallUp.{given, callUpTo};
+ghost use Rattle.frames_found.specs.Found.{frameIn};
 ghost use Rattle.board.specs.Board.{called, refusal, slotOf, emptySlot, emptyBoard, takenOf, callUpOf};
 ghost use Rattle.board.specs.Moments.{config};
 
@@ -46,7 +50,7 @@ pub fn empty() -> Board
 
 // A frame's words, and chip select released.
 pub fn give(bridge: Bridge, tx: &mut [u16], rx: &mut [u16], frame: &[u16]) -> Bridge
-    ensures { λ r. ⌜ config r (now (tx .exit)) (now (rx .exit)) ≡ endOf ours (config bridge (now (tx .entry)) (now (rx .entry))) (given (now (frame .entry))) ⌝ }
+    ensures { λ r. ⌜ config r (now (tx .exit)) (now (rx .exit)) ≡ endOf layouts (config bridge (now (tx .entry)) (now (rx .entry))) (given (now (frame .entry))) ⌝ }
 {
     let mut b = bridge;
     let mut i: usize = 0;
@@ -59,27 +63,37 @@ pub fn give(bridge: Bridge, tx: &mut [u16], rx: &mut [u16], frame: &[u16]) -> Br
     last.state
 }
 
-// The frame of FWD_WR_CRC with these words.
-fn forward(bridge: Bridge, tx: &mut [u16], rx: &mut [u16], words: &[u16]) -> Bridge
+// The frame of FWD_WR_CRC with these words, written for such registers.
+fn write(regs: Regs, words: &[u16], buffer: &mut [u16]) -> Written
+    ensures { λ r. ⌜ wrote r (now (buffer .exit)) ≡ writtenOf (regs .layout) (startBy (isXmodem regs)) FwdWrCrc (now (words .entry)) (now (buffer .entry)) ⌝ }
+{
+    let layout = regs.layout;
+    let start = command::crc_start(registers::is_xmodem(regs));
+    frames::write(layout, start, Order::FwdWrCrc, words, buffer)
+}
+
+// Such a frame given.
+fn forward(bridge: Bridge, tx: &mut [u16], rx: &mut [u16], regs: Regs, words: &[u16]) -> Bridge
     requires { ⌜ 1 ≤ length (now words) ⌝ }
     requires { ⌜ length (now words) ≤ 30 ⌝ }
-    ensures { λ r. ⌜ config r (now (tx .exit)) (now (rx .exit)) ≡ endOf ours (config bridge (now (tx .entry)) (now (rx .entry))) (given (frameOf FwdWrCrc (now (words .entry)))) ⌝ }
+    ensures { λ r. ⌜ config r (now (tx .exit)) (now (rx .exit)) ≡ endOf layouts (config bridge (now (tx .entry)) (now (rx .entry))) (given (frameIn regs FwdWrCrc (now (words .entry)))) ⌝ }
 {
     let mut buffer: [u16; 32] = [0; 32];
-    frames::write(Order::FwdWrCrc, words, &mut buffer);
+    write(regs, words, &mut buffer);
     let n = words.len() + 2;
     give(bridge, tx, rx, &buffer[..n])
 }
 
-// A call-up's words, and then VSYNC.
+// A call-up's words, and then VSYNC: both frames for the registers as they stand, which a forward leaves alone.
 fn forward_both(bridge: Bridge, tx: &mut [u16], rx: &mut [u16], words: &[u16]) -> Bridge
     requires { ⌜ 1 ≤ length (now words) ⌝ }
     requires { ⌜ length (now words) ≤ 30 ⌝ }
-    ensures { λ r. ⌜ config r (now (tx .exit)) (now (rx .exit)) ≡ endOf ours (config bridge (now (tx .entry)) (now (rx .entry))) (callUp (now (words .entry))) ⌝ }
+    ensures { λ r. ⌜ config r (now (tx .exit)) (now (rx .exit)) ≡ endOf layouts (config bridge (now (tx .entry)) (now (rx .entry))) (callUpTo (config bridge (now (tx .entry)) (now (rx .entry))) (now (words .entry))) ⌝ }
 {
-    let after = forward(bridge, tx, rx, words);
+    let regs = bridge.control.regs;
+    let after = forward(bridge, tx, rx, regs, words);
     let vsync: [u16; 1] = [0xAAF0];
-    forward(after, tx, rx, &vsync)
+    forward(after, tx, rx, regs, &vsync)
 }
 
 fn slot_of(reading: u16, words: &[u16]) -> Slot

@@ -23,6 +23,7 @@ use events::Event;
 use frames::Order;
 use line::Ear;
 use line::Found;
+use registers::Regs;
 use state::Bridge;
 
 // `ear` is the reader on SOUT.
@@ -123,7 +124,10 @@ fn least(a: usize, b: usize) -> usize
 }
 
 // STATUS is register 7, and its bit 15 clears the flags; DEVCTRL is 5, its bit 2 forces FAILSAFE and its bit 0 leaves it (01 Registers).
-fn frame(name: u64) -> [u16; 3] {
+// The frame is written for such registers, as they stand (02 item 7).
+fn frame(name: u64, regs: Regs) -> [u16; 3] {
+    let layout = regs.layout;
+    let start = command::crc_start(registers::is_xmodem(regs));
     let mut made = [0u16; 3];
     let address = if name == CLEAR { 7 } else { 5 };
     let word = match name {
@@ -131,7 +135,13 @@ fn frame(name: u64) -> [u16; 3] {
         FORCE => 0x0004,
         _ => 0x0001,
     };
-    frames::write(Order::RegWrCrc { address: address }, &[word], &mut made);
+    frames::write(
+        layout,
+        start,
+        Order::RegWrCrc { address: address },
+        &[word],
+        &mut made,
+    );
     made
 }
 
@@ -181,7 +191,8 @@ fn by_host(bridge: Bridge, desk: Desk, tx: &mut [u16], rx: &mut [u16]) -> Bridge
         let after = answer.state;
         return after;
     }
-    board::give(bridge, tx, rx, &frame(desk.act))
+    let regs = bridge.control.regs;
+    board::give(bridge, tx, rx, &frame(desk.act, regs))
 }
 
 // Of a call-up's words those that are kept are lent, which are enough to judge it.

@@ -4,11 +4,11 @@ use mathlib.Core.Bool.{Bool, true}
 use mathlib.Core.List.{List}
 use Prim.Native.Nat.{ℕ}
 use lib.ListN.{length}
-use Rattle.command.specs.Layouts.{ours}
+use Rattle.command.specs.Layouts.{layouts}
 use Rattle.state.specs.Rings.{txSize, rxSize, oldest}
 use Rattle.state.specs.declared.Bridge.{Bridge}
 use Rattle.rules.specs.Sound.{sound}
-use Rattle.kept.proofs.Fits.{ours-fits}
+use Rattle.kept.proofs.Fits.{layouts-fit}
 use Rattle.events.specs.Turn.{Ready, turned, turn}
 use Rattle.events.specs.declared.Event.{Event}
 use Rattle.events.proofs.Keeps.{keeps, eight-kept}
@@ -18,7 +18,7 @@ use Rattle.bridge.proofs.Reached.{length-written}
 pub is-ready : (t : Bool) (b : Bridge) (tx rx : List ℕ) → length tx ≡ txSize → length rx ≡ rxSize → t ≡ sound b → t ≡ true → Ready b tx rx
 is-ready t b tx rx h k o f = record { tx-length = h; rx-length = k; rules = sym o ∙ f }
 
-pub turn-keeps : (b : Bridge) (tx rx : List ℕ) (e : Event) → Fit b tx rx → Kept (turn ours b tx rx e)
+pub turn-keeps : (b : Bridge) (tx rx : List ℕ) (e : Event) → Fit b tx rx → Kept (turn layouts b tx rx e)
 unfolding turn turned
 turn-keeps b tx rx e f =
     let w : ℕ = oldest tx (b .sending .tx) in
@@ -27,7 +27,7 @@ turn-keeps b tx rx e f =
       ready = record {
         tx-length = length-written txSize tx (b .sending .tx) _ ∙ f .ready .tx-length;
         rx-length = length-written rxSize rx (b .receiving .rx) _ ∙ f .ready .rx-length;
-        rules = keeps ours ours-fits b e w x (f .eight) (f .ready .rules);
+        rules = keeps layouts layouts-fit b e w x (f .eight) (f .ready .rules);
       };
-      eight = eight-kept ours ours-fits b e w x (f .eight) (f .ready .rules);
+      eight = eight-kept layouts layouts-fit b e w x (f .eight) (f .ready .rules);
     }

@@ -6,7 +6,7 @@ use mathlib.Core.List.{List, [], _∷_}
 use Prim.Native.Nat.{ℕ, zero, suc, _+_}
 use lib.Dec.{eqb}
 use Rattle.base.specs.Pick.{pick, pick-keeps}
-use Rattle.command.specs.Layouts.{Layout}
+use Rattle.command.specs.Layouts.{Layouts}
 use Rattle.command.specs.declared.Command.{Command}
 use Rattle.command.specs.declared.Command.the-variants.{Filler, Malformed, Forward, DataRead, RegisterWrite, RegisterRead, SoftReset}
 use Rattle.registers.specs.Raising.{raised}
@@ -125,13 +125,13 @@ module _ (b : Bridge) where
   tame-wrong crc mine =
       pick-keeps (TameBy b) _ _ _ (λ t. record { note = refl; loud = λ h. cc; calm = λ h k. h }) (λ t. record { note = refl; loud = λ h. cc; calm = λ h k. h })
 
-  tame-read : (l : Layout) (crc right : Bool) (reply : Reply) → TameBy b (readClosed l b crc right reply)
+  tame-read : (l : Layouts) (crc right : Bool) (reply : Reply) → TameBy b (readClosed l b crc right reply)
   unfolding readClosed ofHost refuses faults blocking raised
   tame-read l crc right reply =
       pick-keeps (TameBy b) _ _ _ (λ t. still _ _ refl refl)
       (λ t. pick-keeps (TameBy b) _ _ _ (λ u. record { note = refl; loud = λ h. cc; calm = λ h k. h }) (λ u. record { note = refl; loud = λ h. cc; calm = λ h k. h }))
 
-  tame-crc : (l : Layout) (command : Command) (mine : ℕ) (blocked right : Bool) → TameBy b (crcDue l b command mine blocked right)
+  tame-crc : (l : Layouts) (command : Command) (mine : ℕ) (blocked right : Bool) → TameBy b (crcDue l b command mine blocked right)
   unfolding crcDue forwardClosed registersClosed resetClosed ofHost refuses faults blocking raised
   tame-crc l Filler mine blocked right = still _ _ refl refl
   tame-crc l Malformed mine blocked right = still _ _ refl refl
@@ -148,22 +148,22 @@ module _ (b : Bridge) where
       (λ t. pick-keeps (TameBy b) _ _ _ (λ u. still _ _ refl refl) (λ u. record { note = refl; loud = λ h. cc; calm = λ h k. h })) (λ t. tame-wrong true mine)
 
   -- note 15
-  tame-answered : (l : Layout) (reply : Reply) (sum x : ℕ) → TameBy b (answered l b reply sum x)
+  tame-answered : (l : Layouts) (reply : Reply) (sum x : ℕ) → TameBy b (answered l b reply sum x)
   unfolding answered answerWith dataAnswered registerAnswered ofHost refuses faults blocking raised
   tame-answered l (Status w) sum x = still _ _ refl refl
   tame-answered l (Data left) sum x = pick-keeps (TameBy b) _ _ _ (λ t. record { note = refl; loud = λ h. cc; calm = λ h k. h }) (λ t. still _ _ refl refl)
   tame-answered l (Registers address left) sum x = still _ _ refl refl
   tame-answered l Check sum x = still _ _ refl refl
 
-  tame-planned : (l : Layout) (ph : Phase) (w x : ℕ) → TameBy b (plannedIn l b ph w x)
+  tame-planned : (l : Layouts) (ph : Phase) (w x : ℕ) → TameBy b (plannedIn l b ph w x)
   unfolding plannedIn ofHost refuses faults
-  tame-planned l Idle w x = tame-opened (l .decode w) _
+  tame-planned l Idle w x = tame-opened (l .decode (b .control .regs .layout) w) _
   tame-planned l (Collecting command got sum mine released blocked) w x =
       pick-keeps (TameBy b) _ _ _ (λ t. tame-data command _ w) (λ t. tame-crc l command mine blocked _)
   tame-planned l (Answering reply sum) w x = tame-answered l reply sum x
   tame-planned l Discarding w x = still _ _ refl refl
 
-  pub tame-word : (l : Layout) (w x : ℕ) → TameBy b (planned l b w x)
+  pub tame-word : (l : Layouts) (w x : ℕ) → TameBy b (planned l b w x)
   unfolding planned
   tame-word l w x = tame-planned l (b .frame .phase) w x
 

@@ -7,8 +7,9 @@ use Prim.Native.Nat.{ℕ}
 use lib.Dec.{eqb}
 use lib.ListN.{length, length-set}
 use borrow.Author.Tests.{eq-eqb}
+use Rattle.layout.specs.declared.Layout.{Layout}
 use Rattle.base.specs.Pick.{pick, pick-keeps}
-use Rattle.command.specs.Layouts.{Layout}
+use Rattle.command.specs.Layouts.{Layouts}
 use Rattle.rules.specs.Sound.{sound}
 use Rattle.state.specs.Notes.{noteNumber}
 use Rattle.state.specs.Rings.{txSize, rxSize, written}
@@ -33,7 +34,7 @@ use Rattle.bridge.specs.Runs.{Config, RightStores, Whole, refuses, outOf
 use Rattle.bridge.proofs.Plans.{ofHost, tame-word, tame-release}
 
 -- Without notes 1 and 2 an event is its rule carried out.
-pub step-turn : (l : Layout) (b : Bridge) (tx rx : List ℕ) (e : Event) → length tx ≡ txSize → length rx ≡ rxSize → sound b ≡ true
+pub step-turn : (l : Layouts) (b : Bridge) (tx rx : List ℕ) (e : Event) → length tx ≡ txSize → length rx ≡ rxSize → sound b ≡ true
     → step l b tx rx e ≡ turn l b tx rx e
 unfolding step pick
 step-turn l b tx rx e t r s = rw (eq-eqb (length tx) txSize t, eq-eqb (length rx) rxSize r, s)
@@ -59,9 +60,9 @@ tick-not-refusal starved full =
     pick-keeps (λ (n : Note). refuses n ≡ false) _ _ _ (λ t. refl)
     (λ t. pick-keeps (λ (n : Note). refuses n ≡ false) _ _ _ (λ u. refl) (λ u. refl))
 
-reacted-not-refusal : (l : Layout) (b : Bridge) (e : Event) (w x : ℕ) → refuses (reacted l b e w x .note) ≡ false
+reacted-not-refusal : (l : Layouts) (b : Bridge) (e : Event) (w x : ℕ) → refuses (reacted l b e w x .note) ≡ false
 unfolding reacted ticked tickHears tickEnds clocked refuses
-reacted-not-refusal l b (Power good) w x = refl
+reacted-not-refusal l b (Power good layout) w x = refl
 reacted-not-refusal l b (Word word) w x = not-refusal _ (tame-word b l word x .note)
 reacted-not-refusal l b Release w x = not-refusal _ (tame-release b (b .frame .phase) .note)
 reacted-not-refusal l b (Tick sin) w x = tick-not-refusal _ _
@@ -75,7 +76,7 @@ pub record Obeys (c : Config) : Type 0 where
 pub obeys-whole : (c : Config) → Whole c → Obeys c
 obeys-whole c w = record { rules = sound-facts (c .bridge) (w .rules) (w .eight); stores = w .stores }
 
-module _ (l : Layout) (fits : LayoutFit l) where
+module _ (l : Layouts) (fits : LayoutFit l) where
   -- there an event is its rule carried out
   pub obeyed-turn : (c : Config) (e : Event) → Obeys c → outOf l c e ≡ turn l (c .bridge) (c .tx) (c .rx) e
   unfolding outOf
@@ -104,15 +105,15 @@ module _ (l : Layout) (fits : LayoutFit l) where
   unfolding turn turned
   not-refused c e o = rw (obeyed-turn c e o) (reacted-not-refusal l (c .bridge) e _ _)
 
-  module _ (good : Bool) (tx rx : List ℕ) (stores : RightStores tx rx) where
-    pub power-obeys : Obeys (powerOn good tx rx)
+  module _ (good : Bool) (layout : Layout) (tx rx : List ℕ) (stores : RightStores tx rx) where
+    pub power-obeys : Obeys (powerOn good layout tx rx)
     unfolding powerOn
-    power-obeys = record { rules = power-keeps good; stores = stores }
+    power-obeys = record { rules = power-keeps good layout; stores = stores }
 
     -- "every state reached from power-up obeys them"
-    pub reached : (es : List Event) → sound (endOf l (powerOn good tx rx) es .bridge) ≡ true
-    reached es = facts-sound _ (run-obeys (powerOn good tx rx) es power-obeys .rules)
+    pub reached : (es : List Event) → sound (endOf l (powerOn good layout tx rx) es .bridge) ≡ true
+    reached es = facts-sound _ (run-obeys (powerOn good layout tx rx) es power-obeys .rules)
 
     -- no event of a run from power-up has note 1 or 2
-    pub none-refused : (es : List Event) (e : Event) → refuses (outOf l (endOf l (powerOn good tx rx) es) e .answer .note) ≡ false
-    none-refused es e = not-refused _ e (run-obeys (powerOn good tx rx) es power-obeys)
+    pub none-refused : (es : List Event) (e : Event) → refuses (outOf l (endOf l (powerOn good layout tx rx) es) e .answer .note) ≡ false
+    none-refused es e = not-refused _ e (run-obeys (powerOn good layout tx rx) es power-obeys)

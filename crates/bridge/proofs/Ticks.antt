@@ -10,7 +10,7 @@ use Rattle.bridge.specs.Runs.{ticksIn}
 pub ticks-append : (a b : List Event) → ticksIn (a ++ b) ≡ ticksIn a + ticksIn b
 unfolding ticksIn
 ticks-append [] b = omega arith
-ticks-append (Power good ∷ a) b = ticks-append a b
+ticks-append (Power good layout ∷ a) b = ticks-append a b
 ticks-append (Word w ∷ a) b = ticks-append a b
 ticks-append (Release ∷ a) b = ticks-append a b
 ticks-append (Tick sin ∷ a) b = let e : ticksIn (a ++ b) ≡ ticksIn a + ticksIn b = ticks-append a b in omega arith

@@ -6,7 +6,8 @@ use mathlib.Core.List.{List, [], _∷_, _++_}
 use Prim.Native.Nat.{ℕ, suc}
 use lib.Dec.{eqb}
 use lib.ListN.{length}
-use Rattle.command.specs.Layouts.{Layout}
+use Rattle.command.specs.Layouts.{Layouts}
+use Rattle.layout.specs.declared.Layout.{Layout}
 use Rattle.rules.specs.Sound.{sound}
 use Rattle.state.specs.Notes.{noteNumber}
 use Rattle.state.specs.Queue.{places}
@@ -46,23 +47,23 @@ unfoldable pub faults : Note → Bool
 faults n = eqb (noteNumber n) 8 || eqb (noteNumber n) 9 || eqb (noteNumber n) 13
 
 -- what an event gives there
-unfoldable pub outOf : Layout → Config → Event → Out
+unfoldable pub outOf : Layouts → Config → Event → Out
 outOf l c e = step l (c .bridge) (c .tx) (c .rx) e
 
 abbrev pub leftBy : Out → Config
 leftBy o = record { bridge = o .answer .state; tx = o .tx; rx = o .rx }
 
-unfoldable pub next : Layout → Config → Event → Config
+unfoldable pub next : Layouts → Config → Event → Config
 next l c e = leftBy (outOf l c e)
 
 -- the end of a run
-unfoldable pub endOf : Layout → Config → List Event → Config
+unfoldable pub endOf : Layouts → Config → List Event → Config
 endOf l c [] = c
 endOf l c (e ∷ es) = endOf l (next l c e) es
 
 -- the line has a bit at a tick and at no other event
 unfoldable pub lineBit : Event → Bool → List Bool
-lineBit (Power good) b = []
+lineBit (Power good layout) b = []
 lineBit (Word w) b = []
 lineBit Release b = []
 lineBit (Tick sin) b = b ∷ []
@@ -71,20 +72,20 @@ lineBit (ClockReading reading) b = []
 -- the line ticks among events
 unfoldable pub ticksIn : List Event → ℕ
 ticksIn [] = 0
-ticksIn (Power good ∷ es) = ticksIn es
+ticksIn (Power good layout ∷ es) = ticksIn es
 ticksIn (Word w ∷ es) = ticksIn es
 ticksIn (Release ∷ es) = ticksIn es
 ticksIn (Tick sin ∷ es) = suc (ticksIn es)
 ticksIn (ClockReading reading ∷ es) = ticksIn es
 
 -- the SOUT bits of a run
-unfoldable pub soutOf : Layout → Config → List Event → List Bool
+unfoldable pub soutOf : Layouts → Config → List Event → List Bool
 soutOf l c [] = []
 soutOf l c (e ∷ es) = lineBit e (outOf l c e .answer .sout) ++ soutOf l (next l c e) es
 
--- power-up, with whatever the stores hold
-unfoldable pub powerOn : Bool → List ℕ → List ℕ → Config
-powerOn good tx rx = record { bridge = powered good; tx = tx; rx = rx }
+-- power-up in a layout, with whatever the stores hold
+unfoldable pub powerOn : Bool → Layout → List ℕ → List ℕ → Config
+powerOn good layout tx rx = record { bridge = powered good layout; tx = tx; rx = rx }
 
 -- "once all are sent": nothing under way, no END owed, no place waiting
 unfoldable pub allSent : Sending → Bool

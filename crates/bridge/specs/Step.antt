@@ -5,7 +5,7 @@ use Prim.Native.Nat.{ℕ}
 use lib.Dec.{eqb}
 use lib.ListN.{length}
 use Rattle.base.specs.Pick.{pick}
-use Rattle.command.specs.Layouts.{Layout}
+use Rattle.command.specs.Layouts.{Layouts}
 use Rattle.state.specs.Rings.{txSize, rxSize}
 use Rattle.state.specs.declared.Bridge.{Bridge}
 use Rattle.state.specs.declared.Note.{Note}
@@ -24,7 +24,7 @@ abbrev pub refused : Bridge → List ℕ → List ℕ → Note → Out
 refused b tx rx n = out (refusal b n) tx rx
 
 -- notes 1 and 2 come first, in this order, for every event
-unfoldable pub step : Layout → Bridge → List ℕ → List ℕ → Event → Out
+unfoldable pub step : Layouts → Bridge → List ℕ → List ℕ → Event → Out
 step l b tx rx e =
     pick (eqb (length tx) txSize)
     (pick (eqb (length rx) rxSize)

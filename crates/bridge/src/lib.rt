@@ -5,7 +5,7 @@ use events::Event;
 use state::Bridge;
 use state::Note;
 ghost use mathlib.Core.Path.{_≡_};
-ghost use Rattle.command.specs.Layouts.{ours};
+ghost use Rattle.command.specs.Layouts.{layouts};
 ghost use Rattle.events.specs.Turn.{out};
 ghost use Rattle.bridge.specs.Step.{refusal, step as stepOf};
 
@@ -22,7 +22,7 @@ fn refused(bridge: Bridge, note: Note) -> Answer
 
 // One event.
 pub fn step(bridge: Bridge, tx: &mut [u16], rx: &mut [u16], event: Event) -> Answer
-    ensures { λ r. ⌜ out r (now (tx .exit)) (now (rx .exit)) ≡ stepOf ours bridge (now (tx .entry)) (now (rx .entry)) event ⌝ }
+    ensures { λ r. ⌜ out r (now (tx .exit)) (now (rx .exit)) ≡ stepOf layouts bridge (now (tx .entry)) (now (rx .entry)) event ⌝ }
 {
     if tx.len() != 512 {
         return refused(bridge, Note::WrongStores);

@@ -2,6 +2,7 @@
 // wanted is told by a number behind the case: 100 for power, 200 word, 300 tick, 400 release, 500 clock, 600 drain, 700 call-up, 800 a list, 900 the word
 // of notes 4 and 5, 1000 an empty list, 1100 one with a record that is no event, 1200 one with too few result cells; and its note, verdict or outcome.
 use events::Event;
+use layout::Layout;
 use libc::STDOUT_FILENO;
 use records::Fields;
 ghost use Prim.Native.Nat.{_≤_};
@@ -51,7 +52,10 @@ fn filled(cells: &[u16], seal: u16) -> bool {
 // The word is a command word where no frame is open.
 fn event(call: u16) -> Event {
     match call {
-        1 => Event::Power(true),
+        1 => Event::Power {
+            good: true,
+            layout: Layout::Ours,
+        },
         3 => Event::Tick(false),
         4 => Event::Release,
         5 => Event::Clock(9),
@@ -200,8 +204,8 @@ fn with_stores(lent: &Fields, after: &Fields, tx: &mut [u16], rx: &mut [u16], wa
 
 // Numbers that are no record's are none that can be lent.
 pub fn tried(lent: &Fields, after: &Fields, want: Want) -> bool {
-    let n = records::at(lent, 140) as usize;
-    let m = records::at(lent, 141) as usize;
+    let n = records::at(lent, 142) as usize;
+    let m = records::at(lent, 143) as usize;
     let record = (n <= 1024) & (m <= 1024) & records::is(lent, records::built(lent));
     let mut tx = [0u16; 1024];
     let mut rx = [0u16; 1024];

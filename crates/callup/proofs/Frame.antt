@@ -12,10 +12,12 @@ use native.Mathlib.Decide.{ℕ-discrete, decLe}
 use borrow.Author.Tests.{lt-ltb, le-ltb, lt-leb, eq-eqb, ne-eqb}
 use Rattle.base.specs.Pick.{pick, pick-keeps}
 use Rattle.base.specs.Bits.{bit}
-use Rattle.command.specs.Layouts.{Layout}
+use Rattle.layout.specs.declared.Layout.{Layout}
+use Rattle.command.specs.Layouts.{Layouts}
 use Rattle.command.specs.declared.Command.the-variants.{Forward}
 use Rattle.line.specs.Format.{Words}
 use Rattle.registers.specs.Registers.{blocking}
+use Rattle.registers.specs.Spictrl.{isXmodem}
 use Rattle.registers.specs.declared.Control.{Control}
 use Rattle.state.specs.Queue.{newPlace, queued, inUse, lacks, placesOf}
 use Rattle.state.specs.Rings.{oldest, written, ringAfter}
@@ -48,7 +50,6 @@ use Rattle.kept.proofs.Fits.{LayoutFit}
 use Rattle.bridge.specs.Runs.{Config, outOf, endOf, next, faults}
 use Rattle.order.specs.Accepted.{planOf, Log, came, accepts, collects, joined, settle, logged, logBy}
 use Rattle.order.specs.Premises.{Fair, Premises, isPower, Typed, losing}
-use Rattle.frames.specs.Frames.{frameOf}
 use Rattle.callup.specs.Taken.{AllDone, Same, Sixteens}
 use Rattle.callup.proofs.Taken.{OfHost, NoReads, AllWrite}
 use Rattle.base.specs.Truth.{never}
@@ -58,10 +59,11 @@ use Rattle.frames.specs.Orders.{commandWord}
 use Rattle.frames.specs.declared.Order.the-variants.{FwdWrCrc}
 use Rattle.queue.proofs.Laws.{has-record}
 use Rattle.kept.proofs.InUse.{one-endless, in-use-queued}
+use Rattle.frames_found.specs.Found.{frameIn}
 use Rattle.callup.specs.CallUp.{given, sumBy, Speaks}
 
 -- The data words of a frame and its CRC word, from a sum so far, and chip select released.
-unfoldable restOf : Layout → ℕ → List ℕ → List Event
+unfoldable restOf : Layouts → ℕ → List ℕ → List Event
 restOf l sum ws = given (ws ++ (sumBy l sum ws ∷ []))
 
 -- The four plans of such a frame.
@@ -97,9 +99,9 @@ module _ (q : Queue) (n : ℕ) (h : inUse q < 8) where
   pub one-more : length (q .places) ≡ 8 → inUse (queued q (newPlace n 0 false)) ≡ inUse q + 1
   one-more l = in-use-queued q (newPlace n 0 false) l (one-record l) ∙ ap (λ (k : ℕ). inUse q + k) one-place
 
-module _ (l : Layout) (b : Bridge) (x n : ℕ) (clear : blocking (b .control .flags) ≡ false) where
-  plan-open : (w : ℕ) → b .frame .phase ≡ Idle → l .decode w ≡ Forward true n 0 false
-      → planned l b w x ≡ planWith b (collecting n 0 (l .crcStep (l .crcStart) w)) Keep Leave false
+module _ (l : Layouts) (b : Bridge) (x n : ℕ) (clear : blocking (b .control .flags) ≡ false) where
+  plan-open : (w : ℕ) → b .frame .phase ≡ Idle → l .decode (b .control .regs .layout) w ≡ Forward true n 0 false
+      → planned l b w x ≡ planWith b (collecting n 0 (l .crcStep (l .crcStart (isXmodem (b .control .regs))) w)) Keep Leave false
   unfolding planned plannedIn opened forwardBegun forwarded guard asksStore mineAfter enqueues clears faulted pick
   plan-open w p d = rw (p, d, clear) refl
 
@@ -160,21 +162,21 @@ cells-written w cells r h f i =
     ]
 
 -- neither a power-up nor a clear
-kept-all : (l : Layout) (c : Config) (e : Event) (p : Plan) → planOf l c e ≡ p → isPower e ≡ false → clears (p .deed) ≡ false → losing l c e ≡ false
+kept-all : (l : Layouts) (c : Config) (e : Event) (p : Plan) → planOf l c e ≡ p → isPower e ≡ false → clears (p .deed) ≡ false → losing l c e ≡ false
 kept-all l c e p q w h = rw (w, q, h) refl
 
 -- An event that carries out such a plan.
-record Stepped (l : Layout) (c : Config) (e : Event) (p : Plan) : Type 0 where
+record Stepped (l : Layouts) (c : Config) (e : Event) (p : Plan) : Type 0 where
   plan-is : planOf l c e ≡ p
   note-is : outOf l c e .answer .note ≡ Done
   fair : Fair l c e
   same : Same c (next l c e)
   obeys : Obeys (next l c e)
-  phase-is : next l c e .bridge .frame .phase ≡ concluded l (p .status) (next l c e .bridge .control) (p .phase)
+  phase-is : next l c e .bridge .frame .phase ≡ concluded l (c .bridge .frame .xmodem) (p .status) (next l c e .bridge .control) (p .phase)
   sending-is : next l c e .bridge .sending ≡ done (stored (c .bridge .sending) (p .store)) (p .deed)
   cells-are : next l c e .tx ≡ written 512 (c .tx) (c .bridge .sending .tx) (p .store)
 
-module _ (l : Layout) (fits : LayoutFit l) (c : Config) (s : Obeys c) (f : blocking (c .bridge .control .flags) ≡ false) where
+module _ (l : Layouts) (fits : LayoutFit l) (c : Config) (s : Obeys c) (f : blocking (c .bridge .control .flags) ≡ false) where
   abbrev carried : Clock → Plan → Config
   carried k p = record {
     bridge = performed l (c .bridge) k p;
@@ -249,7 +251,7 @@ abbrev pub logOf : List (List ℕ) → List ℕ → Log
 logOf D ws = record { closed = D; words = ws; accepted = false }
 
 -- The rest of a frame, or a whole one: `ws` are the words still to come, `mine` those that came, n is their number.
-pub record Ran (l : Layout) (c : Config) (D : List (List ℕ)) (mine ws : List ℕ) (n : ℕ) (es : List Event) : Type 0 where
+pub record Ran (l : Layouts) (c : Config) (D : List (List ℕ)) (mine ws : List ℕ) (n : ℕ) (es : List Event) : Type 0 where
   pub notes : AllDone l c es
   pub premises : Premises l c es
   pub writes : AllWrite l c es
@@ -274,7 +276,7 @@ same-then c d e a b =
     }
 
 -- what each plan adds to the log
-module _ (l : Layout) (b : Bridge) (D : List (List ℕ)) (mine : List ℕ) where
+module _ (l : Layouts) (b : Bridge) (D : List (List ℕ)) (mine : List ℕ) where
   log-open : (n got sum : ℕ) → logged (logOf D mine) (planWith b (collecting n got sum) Keep Leave false) ≡ logOf D mine
   unfolding logged settle collects came accepts
   log-open n got sum = refl
@@ -291,12 +293,12 @@ log-release : (b : Bridge) (D : List (List ℕ)) → logged (logOf D []) (planWi
 unfolding logged settle collects came accepts joined
 log-release b D = refl
 
-module _ (l : Layout) (fits : LayoutFit l) (speaks : Speaks l) where
+module _ (l : Layouts) (fits : LayoutFit l) (speaks : Speaks l) where
   -- chip select released after the CRC word
-  ran-release : (c : Config) (D : List (List ℕ)) → Obeys c → blocking (c .bridge .control .flags) ≡ false → (k : Control)
-      → c .bridge .frame .phase ≡ concluded l true k Idle → Stepped l c Release (planWith (c .bridge) Idle Keep Leave false)
+  ran-release : (c : Config) (D : List (List ℕ)) → Obeys c → blocking (c .bridge .control .flags) ≡ false → (x : Bool) (k : Control)
+      → c .bridge .frame .phase ≡ concluded l x true k Idle → Stepped l c Release (planWith (c .bridge) Idle Keep Leave false)
   unfolding concluded pick
-  ran-release c D s f k e =
+  ran-release c D s f x k e =
       stepped-release l fits c s f _ e
       (pick-keeps (λ (q : Phase). releasedIn (c .bridge) q ≡ planWith (c .bridge) Idle Keep Leave false) (bit 0 (k .regs .spictrl)) _ _
       (λ t. unfold releasedIn in refl) (λ t. unfold releasedIn in refl))
@@ -310,7 +312,7 @@ module _ (l : Layout) (fits : LayoutFit l) (speaks : Speaks l) where
       = stepped-word l fits c s f sum Idle Keep (Enqueue (newPlace n 0 false)) true k (unfold clears in refl) (plan-crc l (c .bridge) _ n f sum p h u) in
       let d : Config = next l c (Word sum) in
       let r : Stepped l d Release (planWith (d .bridge) Idle Keep Leave false)
-      = ran-release d D (a .obeys) (rw (a .same .flags) f) _ (a .phase-is) in
+      = ran-release d D (a .obeys) (rw (a .same .flags) f) _ _ (a .phase-is) in
       let q : next l d Release .bridge .sending ≡ done (stored (done (stored (c .bridge .sending) Keep) (Enqueue (newPlace n 0 false))) Keep) Leave
       = r .sending-is ∙ ap (λ (t : Sending). done (stored t Keep) Leave) (a .sending-is) in
       record {
@@ -372,22 +374,26 @@ module _ (l : Layout) (fits : LayoutFit l) (speaks : Speaks l) where
   pub ran-frame : (ws : List ℕ) (c : Config) (D : List (List ℕ)) → Obeys c → blocking (c .bridge .control .flags) ≡ false
       → c .bridge .frame .phase ≡ Idle → 1 ≤ length ws → length ws ≤ 30 → inUse (c .bridge .sending .queue) < 8
       → c .bridge .sending .tx .count + length ws ≤ 512 → Words ws
-      → Ran l c D [] ws (length ws) (given (frameOf FwdWrCrc ws))
+      → Ran l c D [] ws (length ws) (given (frameIn (c .bridge .control .regs) FwdWrCrc ws))
   ran-frame ws c D s f p some most u r k =
-      let w : ℕ = commandWord FwdWrCrc (length ws) in
+      let form : Layout = c .bridge .control .regs .layout in
+      let x : Bool = isXmodem (c .bridge .control .regs) in
       let n : ℕ = length ws in
+      let w : ℕ = commandWord form FwdWrCrc n in
+      let sum : ℕ = l .crcStep (l .crcStart x) w in
       let t : w < 65536 = omega arith in
-      let a : Stepped l c (Word w) (planWith (c .bridge) (collecting n 0 (l .crcStep (l .crcStart) w)) Keep Leave false)
-      = stepped-word l fits c s f w _ Keep Leave false t (unfold clears in refl) (plan-open l (c .bridge) _ n f w p (speaks .forward n some most)) in
+      let a : Stepped l c (Word w) (planWith (c .bridge) (collecting n 0 sum) Keep Leave false)
+      = stepped-word l fits c s f w _ Keep Leave false t (unfold clears in refl) (plan-open l (c .bridge) _ n f w p (speaks .forward form n some most)) in
       let d : Config = next l c (Word w) in
       let g : d .bridge .sending ≡ c .bridge .sending = a .sending-is ∙ (unfold done stored ringAfter in refl) in
-      let q : d .bridge .sending .queue ≡ c .bridge .sending .queue = ap (λ (x : Sending). x .queue) g in
-      let m : d .bridge .sending .tx .count ≡ c .bridge .sending .tx .count + 0 = ap (λ (x : Sending). x .tx .count) g ∙ omega arith in
-      let ph : d .bridge .frame .phase ≡ collecting n 0 (l .crcStep (l .crcStart) w) = a .phase-is ∙ (unfold concluded pick in refl) in
-      let i : given (frameOf FwdWrCrc ws) ≡ Word w ∷ restOf l (l .crcStep (l .crcStart) w) ws = ap given (speaks .frame ws) ∙ (unfold given restOf in refl) in
+      let q : d .bridge .sending .queue ≡ c .bridge .sending .queue = ap (λ (y : Sending). y .queue) g in
+      let m : d .bridge .sending .tx .count ≡ c .bridge .sending .tx .count + 0 = ap (λ (y : Sending). y .tx .count) g ∙ omega arith in
+      let ph : d .bridge .frame .phase ≡ collecting n 0 sum = a .phase-is ∙ (unfold concluded pick in refl) in
+      let i : given (frameIn (c .bridge .control .regs) FwdWrCrc ws) ≡ Word w ∷ restOf l sum ws
+      = ap given (speaks .frame form x ws) ∙ (unfold given restOf in refl) in
       rw i
       (ran-more c D [] [] ws ws n 0 (Word w) _ _ a (tt, rw (a .plan-is) tt)
-      (ran-rest ws d D [] n 0 (l .crcStep (l .crcStart) w) (a .obeys) (rw (a .same .flags) f) ph (omega arith) (omega arith) (rw q u)
-      (omega arith) k (speaks .step-lt _ w (speaks .start-lt) t))
-      q m (rw (a .plan-is) (log-open l (c .bridge) D [] n 0 (l .crcStep (l .crcStart) w))) refl (omega arith)
-      (λ x. rw (a .cells-are) (unfold written in x)))
+      (ran-rest ws d D [] n 0 sum (a .obeys) (rw (a .same .flags) f) ph (omega arith) (omega arith) (rw q u)
+      (omega arith) k (speaks .step-lt _ w (speaks .start-lt x) t))
+      q m (rw (a .plan-is) (log-open l (c .bridge) D [] n 0 sum)) refl (omega arith)
+      (λ y. rw (a .cells-are) (unfold written in y)))

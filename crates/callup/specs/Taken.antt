@@ -5,7 +5,7 @@ use mathlib.Core.List.{List, [], _∷_}
 use Prim.Native.Nat.{ℕ, _+_, _≤_, _<_}
 use lib.ListN.{length, getD}
 use Rattle.base.specs.Bits.{wordEnd}
-use Rattle.command.specs.Layouts.{Layout}
+use Rattle.command.specs.Layouts.{Layouts}
 use Rattle.line.specs.Format.{Words}
 use Rattle.registers.specs.Registers.{blocking}
 use Rattle.registers.specs.declared.Mode.the-variants.{Normal}
@@ -34,7 +34,7 @@ pub record Takes (c : Config) (ws : List ℕ) : Type 0 where
   pub room : c .bridge .sending .tx .count + length ws + 1 ≤ txSize
 
 -- every note of a run is 0
-abbrev pub AllDone : Layout → Config → List Event → Type 0
+abbrev pub AllDone : Layouts → Config → List Event → Type 0
 AllDone l c [] = Unit {0}
 AllDone l c (e ∷ es) = (outOf l c e .answer .note ≡ Done) × AllDone l (next l c e) es
 

@@ -8,7 +8,7 @@ use native.Mathlib.Omega.{arith}
 use lib.ListN.{length, getD, set}
 use borrow.Author.Tests.{eq-eqb, ne-eqb}
 use Rattle.base.specs.Pick.{pick, pick-true, pick-false, pick-eq, pick-ne}
-use Rattle.command.specs.Layouts.{Layout, ours}
+use Rattle.command.specs.Layouts.{Layouts, layouts}
 use Rattle.state.specs.Facts.{SendFit}
 use Rattle.state.specs.Rings.{oldest}
 use Rattle.state.specs.declared.Bridge.{Bridge}
@@ -36,7 +36,7 @@ use Rattle.chain.specs.declared.Goal.the-variants.{Room, Sent}
 use Rattle.chain.specs.declared.Ticked.{Ticked}
 
 -- the bit that goes out does not ask the bit that comes in
-pub sout-turn : (l : Layout) (b : Bridge) (tx rx : List ℕ) (sin : Bool)
+pub sout-turn : (l : Layouts) (b : Bridge) (tx rx : List ℕ) (sin : Bool)
     → turn l b tx rx (Tick sin) .answer .sout
     ≡ bitSent (choose (b .sending) (mayStart (b .control))) (b .sending .sender) (oldest tx (b .sending .tx))
 unfolding turn turned reacted tickedBy tickHears tickEnds tickSender sentBy
@@ -47,26 +47,26 @@ abbrev bitOf : Out → Bool
 bitOf o = o .answer .sout
 
 module _ (b : Bridge) (tx rx : List ℕ) where
-  pub to-wrong-tx : (length tx ≡ 512 → ⊥) → true ≡ echo ours (config b tx rx)
+  pub to-wrong-tx : (length tx ≡ 512 → ⊥) → true ≡ echo layouts (config b tx rx)
   unfolding echo outOf step
   to-wrong-tx h = ap bitOf (pick-ne _ _ _ _ _ h refl)
 
-  pub to-wrong-rx : length tx ≡ 512 → (length rx ≡ 256 → ⊥) → true ≡ echo ours (config b tx rx)
+  pub to-wrong-rx : length tx ≡ 512 → (length rx ≡ 256 → ⊥) → true ≡ echo layouts (config b tx rx)
   unfolding echo outOf step
   to-wrong-rx h k = ap bitOf (pick-eq _ _ _ _ _ h (pick-ne _ _ _ _ _ k refl))
 
   module _ (h : length tx ≡ 512) (k : length rx ≡ 256) (t : Bool) (s : t ≡ sound b) where
-    pub to-broken : t ≡ false → true ≡ echo ours (config b tx rx)
+    pub to-broken : t ≡ false → true ≡ echo layouts (config b tx rx)
     unfolding echo outOf step
     to-broken f = ap bitOf (pick-eq _ _ _ _ _ h (pick-eq _ _ _ _ _ k (pick-false _ _ _ _ (sym s ∙ f) refl)))
 
     pub to-bit : t ≡ true → (may : Bool) (kind : Next) (bit : Bool) → may ≡ mayStart (b .control) → kind ≡ choose (b .sending) may
-        → bit ≡ bitSent kind (b .sending .sender) (getD tx (b .sending .tx .head) 0) → bit ≡ echo ours (config b tx rx)
+        → bit ≡ bitSent kind (b .sending .sender) (getD tx (b .sending .tx .head) 0) → bit ≡ echo layouts (config b tx rx)
     unfolding echo outOf step
     to-bit f may kind bit m c e =
         e
         ∙ ap (λ (n : Next). bitSent n (b .sending .sender) (oldest tx (b .sending .tx))) (c ∙ ap (choose (b .sending)) m)
-        ∙ sym (sout-turn ours b tx rx true)
+        ∙ sym (sout-turn layouts b tx rx true)
         ∙ ap bitOf (pick-eq _ _ _ _ _ h (pick-eq _ _ _ _ _ k (pick-true _ _ _ _ (sym s ∙ f) refl)))
 
 -- a record that obeys the rules: what `choose` asks, and the cell that is read
@@ -84,16 +84,16 @@ pub next-fits : (i n : ℕ) → (n ≡ 0 → ⊥) → n < 2 ^ 64 → i % n + 1 <
 next-fits i n h k = let l : i % n < n = in-ring i n h in omega arith
 
 -- a tick, by what `sout` and `step` gave
-module _ (b : Bridge) (tx rx : List ℕ) (chain : List Bool) (at : ℕ) (bit : Bool) (h : bit ≡ echo ours (config b tx rx))
+module _ (b : Bridge) (tx rx : List ℕ) (chain : List Bool) (at : ℕ) (bit : Bool) (h : bit ≡ echo layouts (config b tx rx))
     (a : Answer) (t r : List ℕ) where
-  pub to-straight : length chain ≡ 0 → out a t r ≡ step ours b tx rx (Tick bit)
+  pub to-straight : length chain ≡ 0 → out a t r ≡ step layouts b tx rx (Tick bit)
       → gone (record { bridge = a .state; oldest = at; sout = bit }) t r chain ≡ goneFrom (moment b tx rx chain at)
   unfolding ticked back filled onward next outOf pick
   to-straight z e =
       rw (eq-eqb (length chain) 0 z, ← h)
       (ap (λ (o : Out). gone (record { bridge = o .answer .state; oldest = at; sout = bit }) (o .tx) (o .rx) chain) e)
 
-  pub to-chained : (length chain ≡ 0 → ⊥) → out a t r ≡ step ours b tx rx (Tick (getD chain (at % length chain) false))
+  pub to-chained : (length chain ≡ 0 → ⊥) → out a t r ≡ step layouts b tx rx (Tick (getD chain (at % length chain) false))
       → gone (record { bridge = a .state; oldest = (at % length chain + 1) % length chain; sout = bit }) t r (set chain (at % length chain) bit)
       ≡ goneFrom (moment b tx rx chain at)
   unfolding ticked back filled onward next outOf pick

@@ -2,7 +2,7 @@
 use Prim.Native.Nat.{ℕ, zero, suc, _+_, _≤_}
 use native.Mathlib.Omega.{arith}
 use Rattle.base.specs.Pick.{pick-keeps}
-use Rattle.command.specs.Layouts.{ours}
+use Rattle.command.specs.Layouts.{layouts}
 use Rattle.chain.specs.Echo.{echo}
 use Rattle.chain.specs.Chain.{ticked}
 use Rattle.chain.specs.Waits.{Waiting, waiting, waitOf}
@@ -16,4 +16,4 @@ wait-ticks (suc budget) goal w =
     (λ t. let h : waitOf budget goal w' .ticks ≤ w .ticks + 1 + budget = wait-ticks budget goal w' in omega arith)
   where
     w' : Waiting
-    w' = waiting (ticked (w .moment)) (w .ticks + 1) (echo ours (w .moment .at))
+    w' = waiting (ticked (w .moment)) (w .ticks + 1) (echo layouts (w .moment .at))

@@ -6,7 +6,7 @@ use Prim.Native.Nat.{ℕ, _+_, _%_}
 use lib.Dec.{eqb}
 use lib.ListN.{length, getD, set}
 use Rattle.base.specs.Pick.{pick}
-use Rattle.command.specs.Layouts.{ours}
+use Rattle.command.specs.Layouts.{layouts}
 use Rattle.state.specs.declared.Bridge.{Bridge}
 use Rattle.events.specs.declared.Event.the-variants.{Tick}
 use Rattle.bridge.specs.Runs.{Config, next}
@@ -37,8 +37,8 @@ onward chain oldest = pick (eqb (length chain) 0) oldest ((oldest % length chain
 -- one tick of bridge and chain
 unfoldable pub ticked : Moment → Moment
 ticked m = record {
-  at = next ours (m .at) (Tick (back (m .chain) (m .oldest) (echo ours (m .at))));
-  chain = filled (m .chain) (m .oldest) (echo ours (m .at));
+  at = next layouts (m .at) (Tick (back (m .chain) (m .oldest) (echo layouts (m .at))));
+  chain = filled (m .chain) (m .oldest) (echo layouts (m .at));
   oldest = onward (m .chain) (m .oldest);
 }
 
@@ -51,4 +51,4 @@ abbrev pub gone : Ticked → List ℕ → List ℕ → List Bool → Gone
 gone r tx rx chain = record { moment = moment (r .bridge) tx rx chain (r .oldest); sout = r .sout }
 
 abbrev pub goneFrom : Moment → Gone
-goneFrom m = record { moment = ticked m; sout = echo ours (m .at) }
+goneFrom m = record { moment = ticked m; sout = echo layouts (m .at) }

@@ -3,7 +3,7 @@ use mathlib.Core.Bool.{Bool, true, not}
 use mathlib.Core.List.{List}
 use Prim.Native.Nat.{ℕ, zero, suc, _+_}
 use Rattle.base.specs.Pick.{pick}
-use Rattle.command.specs.Layouts.{ours}
+use Rattle.command.specs.Layouts.{layouts}
 use Rattle.bridge.specs.Runs.{Config}
 use Rattle.drain.specs.Drain.{atRest}
 use Rattle.verdict.specs.Verdicts.{isNoRoom}
@@ -36,7 +36,7 @@ unfoldable pub waitOf : ℕ → Goal → Waiting → Waiting
 waitOf zero goal w = w
 waitOf (suc budget) goal w =
     pick (met goal (w .moment .at)) w
-    (waitOf budget goal (waiting (ticked (w .moment)) (w .ticks + 1) (echo ours (w .moment .at))))
+    (waitOf budget goal (waiting (ticked (w .moment)) (w .ticks + 1) (echo layouts (w .moment .at))))
 
 -- from the start; where no tick is made the bit told is a 1
 abbrev pub waitFrom : ℕ → Goal → Moment → Waiting

@@ -2,7 +2,7 @@
 use events::Event;
 use state::Bridge;
 ghost use mathlib.Core.Path.{_≡_};
-ghost use Rattle.command.specs.Layouts.{ours};
+ghost use Rattle.command.specs.Layouts.{layouts};
 ghost use Rattle.drain.specs.Drain.{atRest};
 ghost use Rattle.chain.specs.Echo.{echo};
 ghost use Rattle.board.specs.Moments.{config};
@@ -32,7 +32,7 @@ pub struct Waited {
 
 // The bit that the next tick sends, known before the bit that it reads.
 pub fn sout(bridge: Bridge, tx: &[u16], rx: &[u16]) -> bool
-    ensures { λ r. ⌜ r ≡ echo ours (config bridge (now (tx .entry)) (now (rx .entry))) ⌝ }
+    ensures { λ r. ⌜ r ≡ echo layouts (config bridge (now (tx .entry)) (now (rx .entry))) ⌝ }
 {
     if tx.len() != 512 {
         return true;

@@ -5,6 +5,7 @@ use lib.Dec.{ltb, leb}
 use Rattle.base.specs.Bits.{wordEnd}
 use Rattle.base.specs.Pick.{pick}
 use Rattle.registers.specs.Registers.{isNormal}
+use Rattle.registers.specs.Spictrl.{dogLimit}
 use Rattle.registers.specs.Raising.{raised}
 use Rattle.registers.specs.declared.Control.{Control}
 use Rattle.registers.specs.declared.Flag.the-variants.{SinStuck}
@@ -29,14 +30,10 @@ stillFor = 5
 abbrev pub watchFires : Clock → ℕ → Bool
 watchFires c reading = c .watching && leb stillFor (elapsed reading (c .«watch_mark»))
 
--- the watchdog's milliseconds, 0 off: bits 15..8 of SPICTRL. 01 Registers (ours)
-abbrev pub dogLimit : Bridge → ℕ
-dogLimit b = b .control .regs .spictrl / 256
-
--- "at or over its limit NORMAL becomes FAILSAFE"; SPICTRL "bits 15..8 watchdog ms (0 off)"
+-- "at or over its limit NORMAL becomes FAILSAFE"; a limit of 0 is off
 abbrev pub dogFires : Bridge → ℕ → Bool
 dogFires b reading =
-    isNormal (b .control .mode) && ltb 0 (dogLimit b) && leb (dogLimit b) (elapsed reading (b .clock .mark))
+    isNormal (b .control .mode) && ltb 0 (dogLimit (b .control .regs)) && leb (dogLimit (b .control .regs)) (elapsed reading (b .clock .mark))
 
 unfoldable pub modeAt : Mode → Bool → Mode
 modeAt m bites = pick bites Failsafe m

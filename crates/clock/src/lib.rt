@@ -29,7 +29,7 @@ pub fn dog_fires(bridge: Bridge, reading: u16) -> bool
 {
     let control = bridge.control;
     let mode = control.mode;
-    let limit = control.regs.spictrl / 256;
+    let limit = registers::dog_limit(control.regs);
     let normal = registers::is_normal(mode);
     let on = 0 < limit;
     let due = limit <= elapsed(reading, bridge.clock.mark);

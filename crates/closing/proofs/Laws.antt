@@ -1,11 +1,11 @@
 -- The rules of the CRC word by their parts and arms, as the proofs of src/lib.rt ask them. Assumes nothing.
 use mathlib.Core.Path.{_≡_}
-use mathlib.Core.Bool.{Bool, true, not, _&&_}
+use mathlib.Core.Bool.{Bool, true, false, not, _&&_}
 use Prim.Native.Nat.{ℕ, _+_, _≤_}
 use lib.Dec.{eqb}
 use lib.ListN.{take}
-use Rattle.base.specs.Pick.{pick}
-use Rattle.command.specs.Layouts.{ours}
+use Rattle.base.specs.Pick.{pick, pick-true, pick-false}
+use Rattle.command.specs.Layouts.{layouts}
 use Rattle.command.specs.declared.Command.{Command}
 use Rattle.command.specs.declared.Command.the-variants.{RegisterWrite}
 use Rattle.registers.specs.Raising.{raisedIn}
@@ -45,12 +45,17 @@ module _ (b : Bridge) (x : Plan) where
     unfolding resetClosed
     to-reset f e = rw f at e
 
-    pub to-read : (crc right : Bool) (reply : Reply) → flagged ≡ raisedIn (b .control) SpiCrc
-        → x ≡ pick right (plain b (Answering reply (ours .crcStart)) Done)
-        (pick crc (plain (withControl b flagged) Idle CrcRefused) (plain (withControl b flagged) (Answering reply (ours .crcStart)) CrcWrong))
-        → x ≡ readClosed ours b crc right reply
+  -- reads, with the start of the frame's algorithm
+  module _ (start : ℕ) (s : start ≡ layouts .crcStart (b .frame .xmodem)) (crc right : Bool) (reply : Reply) where
+    pub to-answered : right ≡ true → x ≡ plain b (Answering reply start) Done → x ≡ readClosed layouts b crc right reply
     unfolding readClosed
-    to-read crc right reply f e = rw f at e
+    to-answered h e = pick-true _ _ _ _ h (rw s at e)
+
+    pub to-read : (flagged : Control) → flagged ≡ raisedIn (b .control) SpiCrc → right ≡ false
+        → x ≡ pick crc (plain (withControl b flagged) Idle CrcRefused) (plain (withControl b flagged) (Answering reply start) CrcWrong)
+        → x ≡ readClosed layouts b crc right reply
+    unfolding readClosed
+    to-read flagged f h e = pick-false _ _ _ _ h (rw (f, s) at e)
 
   pub to-registers : (crc now : Bool) (address count : ℕ) (done : Effects) → now ≡ busy b
       → done ≡ writeAll (noEffects (b .control)) now address (take count (b .frame .held))
@@ -65,8 +70,8 @@ module _ (b : Bridge) (x : Plan) where
   to-closed crc words ends reads blocked p g c hp hg hc e = rw (← hp, ← hg, ← hc) e
 
 -- an arm of the CRC word
-pub to-due : (b : Bridge) (command k : Command) (mine : ℕ) (blocked right : Bool) (x : Plan) → command ≡ k → x ≡ crcDue ours b k mine blocked right
-    → x ≡ crcDue ours b command mine blocked right
+pub to-due : (b : Bridge) (command k : Command) (mine : ℕ) (blocked right : Bool) (x : Plan) → command ≡ k → x ≡ crcDue layouts b k mine blocked right
+    → x ≡ crcDue layouts b command mine blocked right
 to-due b command k mine blocked right x h e = rw h e
 
 -- the registers of a write exist

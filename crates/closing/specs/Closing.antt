@@ -4,7 +4,7 @@ use Prim.Native.Nat.{ℕ}
 use lib.Dec.{eqb}
 use lib.ListN.{take}
 use Rattle.base.specs.Pick.{pick}
-use Rattle.command.specs.Layouts.{Layout}
+use Rattle.command.specs.Layouts.{Layouts}
 use Rattle.command.specs.declared.Command.{Command}
 use Rattle.command.specs.declared.Command.the-variants.{Filler, Malformed, Forward, DataRead, RegisterWrite, RegisterRead, SoftReset}
 use Rattle.registers.specs.Raising.{raisedIn}
@@ -63,10 +63,10 @@ registersClosed b crc address count =
     (closed b (b .control) Leave LeaveRx Done)
 
 -- reads: "after note 6 they answer nothing"
-unfoldable pub readClosed : Layout → Bridge → Bool → Bool → Reply → Plan
+unfoldable pub readClosed : Layouts → Bridge → Bool → Bool → Reply → Plan
 readClosed l b crc right reply =
-    pick right (plain b (Answering reply (l .crcStart)) Done)
-    (pick crc (flagged (plain b Idle CrcRefused)) (flagged (plain b (Answering reply (l .crcStart)) CrcWrong)))
+    pick right (plain b (Answering reply (l .crcStart (b .frame .xmodem))) Done)
+    (pick crc (flagged (plain b Idle CrcRefused)) (flagged (plain b (Answering reply (l .crcStart (b .frame .xmodem))) CrcWrong)))
   where
     flagged : Plan → Plan
     flagged p = record {
@@ -87,7 +87,7 @@ resetClosed b =
     pick (idle (b .sending .sender)) (closed b (b .control) ResetAll ResetRx Done)
     (closed b (raisedIn (b .control) Srst) Leave LeaveRx ResetRefused)
 
-unfoldable pub crcDue : Layout → Bridge → Command → ℕ → Bool → Bool → Plan
+unfoldable pub crcDue : Layouts → Bridge → Command → ℕ → Bool → Bool → Plan
 crcDue l b Filler mine blocked right = plain b Idle Done
 crcDue l b Malformed mine blocked right = plain b Idle Done
 crcDue l b (Forward crc words ends reads) mine blocked right =

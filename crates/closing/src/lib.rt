@@ -2,7 +2,7 @@
 ghost use mathlib.Core.Path.{_≡_};
 ghost use mathlib.Core.Bool.{Bool, true};
 ghost use Prim.Native.Nat.{ℕ, _+_, _≤_};
-ghost use Rattle.command.specs.Layouts.{ours};
+ghost use Rattle.command.specs.Layouts.{layouts};
 ghost use Rattle.closing.specs.Closing.{closed as closedOf, wrongCrc, forwardClosed, registersClosed, readClosed, resetClosed, crcDue};
 use command::Command;
 use forwards::Wish;
@@ -106,11 +106,11 @@ fn registers_closed(bridge: Bridge, crc: bool, address: u16, count: u16) -> Plan
 
 // Reads answer, but not after note 6.
 fn read_closed(bridge: Bridge, crc: bool, right: bool, reply: Reply) -> Plan
-    ensures { λ r. ⌜ r ≡ readClosed ours bridge crc right reply ⌝ }
+    ensures { λ r. ⌜ r ≡ readClosed layouts bridge crc right reply ⌝ }
 {
     let answering = Phase::Answering {
         reply: reply,
-        crc: crc16::START,
+        crc: command::crc_start(bridge.frame.xmodem),
     };
     if right {
         return plain(bridge, answering, Note::Done);
@@ -158,7 +158,7 @@ fn forward_due(
     blocked: bool,
     right: bool,
 ) -> Plan
-    ensures { λ r. ⌜ r ≡ crcDue ours bridge (Command.Forward crc words ends reads) mine blocked right ⌝ }
+    ensures { λ r. ⌜ r ≡ crcDue layouts bridge (Command.Forward crc words ends reads) mine blocked right ⌝ }
 {
     if right {
         return forward_closed(bridge, crc, words, ends, reads, blocked);
@@ -176,7 +176,7 @@ fn registers_due(
     right: bool,
 ) -> Plan
     requires { ⌜ address + count ≤ 12 ⌝ }
-    ensures { λ r. ⌜ r ≡ crcDue ours bridge (Command.RegisterWrite crc address count) mine blocked right ⌝ }
+    ensures { λ r. ⌜ r ≡ crcDue layouts bridge (Command.RegisterWrite crc address count) mine blocked right ⌝ }
 {
     if right {
         return registers_closed(bridge, crc, address, count);
@@ -185,7 +185,7 @@ fn registers_due(
 }
 
 fn reset_due(bridge: Bridge, mine: u16, blocked: bool, right: bool) -> Plan
-    ensures { λ r. ⌜ r ≡ crcDue ours bridge Command.SoftReset mine blocked right ⌝ }
+    ensures { λ r. ⌜ r ≡ crcDue layouts bridge Command.SoftReset mine blocked right ⌝ }
 {
     if right {
         return reset_closed(bridge);
@@ -196,7 +196,7 @@ fn reset_due(bridge: Bridge, mine: u16, blocked: bool, right: bool) -> Plan
 // The CRC word, right or wrong.
 pub fn crc_due(bridge: Bridge, command: Command, mine: u16, blocked: bool, right: bool) -> Plan
     requires { ⌜ ((crc : Bool) (address count : ℕ) → command ≡ Command.RegisterWrite crc address count → address + count ≤ 12) ⌝ }
-    ensures { λ r. ⌜ r ≡ crcDue ours bridge command mine blocked right ⌝ }
+    ensures { λ r. ⌜ r ≡ crcDue layouts bridge command mine blocked right ⌝ }
 {
     match command {
         Command::Filler => plain(bridge, Phase::Idle, Note::Done),

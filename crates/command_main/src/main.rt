@@ -1,5 +1,5 @@
-// Walks all 65,536 words through `command::decode` and prints a digest for each command number and a count for each kind, to be
-// compared with what another program makes of 01's table.
+// Walks all 65,536 words through `command::decode`, in our layout and then in the maker's (02 item 7), and prints of each a digest for each command
+// number and a count for each kind, to be compared with what another program makes of 01's table and of 001's.
 //
 // The digest of a number begins at 0 and goes over its 4,096 words, ascending. A command is a row of numbers: its kind (0 filler,
 // 1 malformed, 2 forward, 3 data read, 4 register write, 5 register read, 6 soft reset), then the fields of that kind as `Command`
@@ -7,6 +7,7 @@
 // prime below 2^32, so no step leaves 64 bits. It is printed as eight hex digits.
 ghost use Prim.Native.Nat.{_<_};
 use command::Command;
+use layout::Layout;
 
 fn mix(digest: u64, field: u16) -> u64 {
     (digest % 4294967291 * 65599 + field as u64 + 1) % 4294967291
@@ -119,14 +120,20 @@ fn close_number(word: u16, digest: u64) -> u64 {
     0
 }
 
-fn main() {
+fn walk(layout: Layout) {
     let mut counts = [0u32; 13];
     let mut digest: u64 = 0;
     for word in 0..=65535u16 {
-        let asked = command::decode(word);
+        let asked = command::decode(layout, word);
         let at = place(asked);
         counts[at] = std::num::wrapping_add_u32(counts[at], 1);
         digest = close_number(word, mix_command(digest, asked));
     }
     print_counts(counts);
+}
+
+fn main() {
+    walk(Layout::Ours);
+    io::write_all(1, b"maker's\n");
+    walk(Layout::Makers);
 }

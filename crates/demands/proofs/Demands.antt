@@ -6,13 +6,13 @@ use Prim.Native.Nat.{ℕ}
 use lib.ListN.{length}
 use borrow.Author.Tests.{eq-eqb, eqb-true}
 use Rattle.base.specs.Pick.{pick, pick-keeps}
-use Rattle.command.specs.Layouts.{ours}
+use Rattle.command.specs.Layouts.{layouts}
 use Rattle.rules.specs.Sound.{sound}
 use Rattle.state.specs.Queue.{places}
 use Rattle.state.specs.Rings.{txSize, rxSize}
 use Rattle.state.specs.declared.Bridge.{Bridge}
 use Rattle.state.specs.declared.Note.the-variants.{WrongStores, BrokenRecord}
-use Rattle.kept.proofs.Fits.{ours-fits}
+use Rattle.kept.proofs.Fits.{layouts-fit}
 use Rattle.kept.proofs.Sound.{facts-sound, sound-facts}
 use Rattle.events.specs.Turn.{Out, one-outcome}
 use Rattle.events.specs.declared.Event.{Event}
@@ -27,7 +27,7 @@ pub the-code : (M : Type 1) → TheCode M
 the-code M = met
 
 module _ (b : Bridge) (tx rx : List ℕ) (e : Event) where
-  wrong-stores : (RightStores tx rx → ⊥) → step ours b tx rx e ≡ refused b tx rx WrongStores
+  wrong-stores : (RightStores tx rx → ⊥) → step layouts b tx rx e ≡ refused b tx rx WrongStores
   unfolding step
   wrong-stores h =
       pick-keeps Refused _ _ _
@@ -37,7 +37,7 @@ module _ (b : Bridge) (tx rx : List ℕ) (e : Event) where
       Refused : Out → Type 0
       Refused o = o ≡ refused b tx rx WrongStores
 
-  broken-record : RightStores tx rx → sound b ≡ false → step ours b tx rx e ≡ refused b tx rx BrokenRecord
+  broken-record : RightStores tx rx → sound b ≡ false → step layouts b tx rx e ≡ refused b tx rx BrokenRecord
   unfolding step pick
   broken-record s h = rw (eq-eqb (length tx) txSize (s .tx-is), eq-eqb (length rx) rxSize (s .rx-is), h) refl
 
@@ -45,7 +45,7 @@ module _ (b : Bridge) (tx rx : List ℕ) (e : Event) where
   answered = record {
     wrong-stores = wrong-stores;
     broken-record = broken-record;
-    carried-out = λ s h. step-turn ours b tx rx e (s .tx-is) (s .rx-is) h;
+    carried-out = λ s h. step-turn layouts b tx rx e (s .tx-is) (s .rx-is) h;
   }
 
   again : length (b .sending .queue .places) ≡ places → RightStores tx rx → sound b ≡ true → FitAgain b tx rx e
@@ -53,9 +53,9 @@ module _ (b : Bridge) (tx rx : List ℕ) (e : Event) where
   again l s h =
       let c : Config = record { bridge = b; tx = tx; rx = rx } in
       let o : Obeys c = record { rules = sound-facts b h l; stores = s } in
-      let n : Obeys (next ours c e) = step-obeys ours ours-fits c e o in
+      let n : Obeys (next layouts c e) = step-obeys layouts layouts-fit c e o in
       record {
-        not-refused = not-refused ours ours-fits c e o;
+        not-refused = not-refused layouts layouts-fit c e o;
         record-again = facts-sound _ (n .rules);
         stores-again = n .stores;
       }
@@ -67,4 +67,4 @@ pub demand-2 : Demand2
 demand-2 b tx rx e a c t u r s p q = one-outcome _ a c t u r s p q
 
 pub demand-3 : Demand3
-demand-3 good tx rx s es p = demand-3-as-asked good tx rx s es p
+demand-3 good layout tx rx s es p = demand-3-as-asked good layout tx rx s es p

@@ -4,17 +4,18 @@ use mathlib.Core.Bool.{Bool, true, false}
 use mathlib.Core.List.{_∷_}
 use Prim.Native.Nat.{ℕ}
 use lib.ListN.{replicate}
+use Rattle.layout.specs.declared.Layout.the-variants.{Ours}
 use Rattle.base.specs.Bits.{val, odd, bit, highFirst}
 use Rattle.base.specs.Pick.{pick}
 use Rattle.crc16.specs.Crc.{shift, crcBit, crcBits, crcWord}
-use Rattle.command.specs.Layouts.{ours}
+use Rattle.command.specs.Layouts.{layouts}
 use Rattle.line.specs.Format.{checkBit, wordBit, pieceBit}
 use Rattle.line.specs.Reader.{hear}
 use Rattle.registers.specs.Raising.{raised}
-use Rattle.registers.specs.Registers.{blocking, powerUpControl, table, resetRegs, cleared, powerUpFlags}
+use Rattle.registers.specs.Registers.{blocking, powerUpControl, tableOf, resetRegs, cleared, powerUpFlags}
 use Rattle.registers.specs.declared.Mode.the-variants.{Normal}
 use Rattle.state.specs.Frame.{mineOf, toCome, phaseSound}
-use Rattle.state.specs.Power.{powerUp}
+use Rattle.state.specs.Power.{powerUp, powerUpIn}
 use Rattle.state.specs.Queue.{noPlace, newPlace, waiting, wordsOf, moved, freed, returned, placesOf, placesIn, inUse, placeAt}
 use Rattle.state.specs.Rings.{written}
 use Rattle.state.specs.declared.Bridge.{Bridge}
@@ -35,7 +36,7 @@ use Rattle.drain.specs.Cost.{Calm, Accepted}
 -- power-up with its flags cleared, and one command queued with all its words in TX
 unfoldable pub queuedOne : ℕ → ℕ → Bridge
 queuedOne words ends = record {
-  control = record { mode = Normal; drdy = true; flags = cleared powerUpFlags; regs = resetRegs };
+  control = record { mode = Normal; drdy = true; flags = cleared powerUpFlags; regs = resetRegs Ours };
   sending = record {
     tx = record { head = 0; count = words };
     queue = record { places = newPlace words ends false ∷ replicate 7 noPlace; used = 1; begun = 0 };
@@ -47,8 +48,8 @@ queuedOne words ends = record {
 }
 
 unfoldable pub drainedOne : ℕ → ℕ → ℕ → ℕ → End
-unfolding queuedOne val odd bit highFirst pick shift crcBit crcBits crcWord checkBit wordBit pieceBit hear raised blocking powerUpControl table resetRegs cleared powerUpFlags mineOf toCome phaseSound powerUp noPlace newPlace waiting wordsOf moved freed returned written roleSound slotSound slotsBelow endSound pieceSound earSound marksSound isUnmarked choose bitSent wordSent queueSent senderAfter advanced placeSent commandSent finished sentBy tickSender takenBy tickReader settled same markAfter watched starvedFlags flagsSent phaseAfter controlTicked tickNote tickEnds tickHears ticked reacted turned turn runOf drain placesOf placesIn
-drainedOne words ends cells budget = drain ours (queuedOne words ends) (replicate cells 0xAAF0) (replicate 256 0) budget
+unfolding queuedOne val odd bit highFirst pick shift crcBit crcBits crcWord checkBit wordBit pieceBit hear raised blocking powerUpControl tableOf resetRegs cleared powerUpFlags mineOf toCome phaseSound powerUpIn noPlace newPlace waiting wordsOf moved freed returned written roleSound slotSound slotsBelow endSound pieceSound earSound marksSound isUnmarked choose bitSent wordSent queueSent senderAfter advanced placeSent commandSent finished sentBy tickSender takenBy tickReader settled same markAfter watched starvedFlags flagsSent phaseAfter controlTicked tickNote tickEnds tickHears ticked reacted turned turn runOf drain placesOf placesIn
+drainedOne words ends cells budget = drain layouts (queuedOne words ends) (replicate cells 0xAAF0) (replicate 256 0) budget
 
 pub one-word : drainedOne 1 0 512 100 .drained .ticks ≡ 36
 unfolding drainedOne
@@ -111,7 +112,7 @@ broken = refl
 
 -- the premises of the sum can be met
 pub calm : (words ends : ℕ) → Calm (queuedOne words ends)
-unfolding queuedOne cleared powerUpFlags blocking powerUp toCome
+unfolding queuedOne cleared powerUpFlags blocking powerUpIn toCome
 calm words ends = record { normal = refl; clear = refl; unblocked = refl; sender = refl; reader = refl; stored = refl }
 
 pub accepted : Accepted (queuedOne 1 0) (replicate 512 0xAAF0) (replicate 256 0)

@@ -7,7 +7,7 @@ use native.Mathlib.Omega.{arith}
 use lib.Dec.{ltb}
 use borrow.Author.Tests.{lt-ltb, le-ltb, lt-leb, ltb-true}
 use Rattle.base.specs.Pick.{pick, pick-true, pick-false, and-r}
-use Rattle.command.specs.Layouts.{ours}
+use Rattle.command.specs.Layouts.{layouts}
 use Rattle.line.specs.Format.{pieceLength}
 use Rattle.line.specs.Reader.{hear}
 use Rattle.state.specs.Facts.{HostFit}
@@ -30,7 +30,7 @@ none-laid from b h = pick-false (ltb from from) b _ _ (le-ltb from from (omega a
 
 pub hush-begins : (budget : ℕ) (b : Bridge) (from : ℕ) (h : Hot) → HostFit b → from < budget → h ≡ hotOf b → Hush budget b from from h
 hush-begins budget b from h f l e = record {
-  whole = λ tx rx. ap (λ (x : Bridge). runOf ours (budget - from) from x tx rx) (sym (none-laid from b h));
+  whole = λ tx rx. ap (λ (x : Bridge). runOf layouts (budget - from) from x tx rx) (sym (none-laid from b h));
   fit = λ tx rx i. subst (λ (x : Bridge). Fit x tx rx) (none-laid from b h) i;
   least = omega arith;
   most = omega arith;
@@ -61,17 +61,17 @@ module _ (budget : ℕ) (b : Bridge) (from ticks : ℕ) (h : Hot) (v : Hush budg
         let l : h .gone < reach (b .sending .sender) = ltb-true _ _ (and-r none (ltb (h .gone) (reach (b .sending .sender))) q) in
         omega (arith, reach-within (b .sending .sender))
 
-    ticked : (tx rx : List ℕ) → tickOn ours before tx rx ≡ out (quietAnswer b false h true) tx rx
+    ticked : (tx rx : List ℕ) → tickOn layouts before tx rx ≡ out (quietAnswer b false h true) tx rx
     ticked tx rx = quiet-turn (ltb from ticks) b false h true tx rx (v .first) (λ e. cc) q
 
     one : (tx rx : List ℕ)
-        → after (budget - (ticks + 1)) ticks (out (quietAnswer b false h true) tx rx) ≡ runOf ours (budget - ticks) ticks before tx rx
+        → after (budget - (ticks + 1)) ticks (out (quietAnswer b false h true) tx rx) ≡ runOf layouts (budget - ticks) ticks before tx rx
     unfolding runOf
     one tx rx =
         let z : budget - ticks ≡ suc (budget - (ticks + 1)) = omega arith in
         sym (ap (after (budget - (ticks + 1)) ticks) (ticked tx rx))
         ∙ pick-false _ _ _ _ (laid-goes (ltb from ticks) b h (v .first) inside) refl
-        ∙ sym (ap (λ (m : ℕ). runOf ours m ticks before tx rx) z)
+        ∙ sym (ap (λ (m : ℕ). runOf layouts m ticks before tx rx) z)
 
     now-some : ltb from (ticks + 1) ≡ true
     now-some = lt-ltb from (ticks + 1) (omega (arith, v .least))
@@ -83,7 +83,7 @@ module _ (budget : ℕ) (b : Bridge) (from ticks : ℕ) (h : Hot) (v : Hush budg
     unfolding pick
     more = record {
       whole = λ tx rx. subst
-          (λ (x : Bridge). runOf ours (budget - (ticks + 1)) (ticks + 1) x tx rx ≡ runOf ours (budget - from) from b tx rx) some-laid
+          (λ (x : Bridge). runOf layouts (budget - (ticks + 1)) (ticks + 1) x tx rx ≡ runOf layouts (budget - from) from b tx rx) some-laid
           (one tx rx ∙ v .whole tx rx);
       fit = λ tx rx f. subst (λ (x : Bridge). Fit x tx rx) some-laid
           (subst Kept (ticked tx rx) (turn-keeps before tx rx (Tick true) (v .fit tx rx f)));
@@ -104,7 +104,7 @@ module _ (budget : ℕ) (b₀ : Bridge) (tx₀ rx₀ : List ℕ) (ticks : ℕ) (
   hushed to h w x l e =
       let y : x ≡ laidBy (ltb ticks to) b false h = e ∙ pick-true (ltb ticks to) _ _ _ (lt-ltb ticks to l) refl in
       record {
-        whole = ap (λ (z : Bridge). runOf ours (budget - to) to z tx rx) y ∙ w .whole tx rx ∙ v .whole;
+        whole = ap (λ (z : Bridge). runOf layouts (budget - to) to z tx rx) y ∙ w .whole tx rx ∙ v .whole;
         fit = subst (λ (z : Bridge). Fit z tx rx) (sym y) (w .fit tx rx (v .fit));
         lent = v .lent;
       }

@@ -7,7 +7,7 @@ use native.Mathlib.Omega.{arith}
 use lib.Dec.{eqb}
 use lib.ListN.{length}
 use Rattle.base.specs.Pick.{pick, pick-true, pick-false, pick-eq, pick-ne}
-use Rattle.command.specs.Layouts.{ours}
+use Rattle.command.specs.Layouts.{layouts}
 use Rattle.state.specs.Facts.{HostFit}
 use Rattle.state.specs.Notes.{noteNumber}
 use Rattle.state.specs.declared.Bridge.{Bridge}
@@ -27,37 +27,37 @@ to-refused b tx rx n d e = ap (λ (x : Drained). end x tx rx) e
 
 -- what is left of the run is the whole run, and what was lent to it
 pub record Inv (budget : ℕ) (b₀ : Bridge) (tx₀ rx₀ : List ℕ) (ticks : ℕ) (b : Bridge) (tx rx : List ℕ) : Type 0 where
-  pub whole : runOf ours (budget - ticks) ticks b tx rx ≡ runOf ours budget 0 b₀ tx₀ rx₀
+  pub whole : runOf layouts (budget - ticks) ticks b tx rx ≡ runOf layouts budget 0 b₀ tx₀ rx₀
   pub fit : Fit b tx rx
   pub lent : Ready b₀ tx₀ rx₀
 
 pub begins : (budget : ℕ) (b : Bridge) (tx rx : List ℕ) → Ready b tx rx → length (b .sending .queue .places) ≡ 8 → Inv budget b tx rx 0 b tx rx
 begins budget b tx rx r l =
     let z : budget - 0 ≡ budget = omega arith in
-    record { whole = ap (λ (m : ℕ). runOf ours m 0 b tx rx) z; fit = record { ready = r; eight = l }; lent = r }
+    record { whole = ap (λ (m : ℕ). runOf layouts m 0 b tx rx) z; fit = record { ready = r; eight = l }; lent = r }
 
 -- one turn of the definition, at what the tick left
 abbrev pub after : ℕ → ℕ → Out → End
 after left ticks o =
-    pick (eqb (noteNumber (o .answer .note)) 0) (runOf ours left (ticks + 1) (o .answer .state) (o .tx) (o .rx))
+    pick (eqb (noteNumber (o .answer .note)) 0) (runOf layouts left (ticks + 1) (o .answer .state) (o .tx) (o .rx))
     (stopped (o .answer .state) (o .tx) (o .rx) (ticks + 1) (o .answer .note))
 
 module _ (budget : ℕ) (b₀ : Bridge) (tx₀ rx₀ : List ℕ) (ticks : ℕ) (b : Bridge) (tx rx : List ℕ) (v : Inv budget b₀ tx₀ rx₀ ticks b tx rx) where
   less : ticks < budget → budget - ticks ≡ suc (budget - (ticks + 1))
   less h = omega arith
 
-  pub to-rest : ticks < budget → (i : Bool) → i ≡ atRest b → i ≡ true → stopped b tx rx ticks Done ≡ runOf ours budget 0 b₀ tx₀ rx₀
+  pub to-rest : ticks < budget → (i : Bool) → i ≡ atRest b → i ≡ true → stopped b tx rx ticks Done ≡ runOf layouts budget 0 b₀ tx₀ rx₀
   unfolding runOf
-  to-rest h i p q = pick-true _ _ _ _ (sym p ∙ q) refl ∙ sym (ap (λ (m : ℕ). runOf ours m ticks b tx rx) (less h)) ∙ v .whole
+  to-rest h i p q = pick-true _ _ _ _ (sym p ∙ q) refl ∙ sym (ap (λ (m : ℕ). runOf layouts m ticks b tx rx) (less h)) ∙ v .whole
 
-  pub to-budget : budget ≤ ticks → stopped b tx rx ticks Done ≡ runOf ours budget 0 b₀ tx₀ rx₀
+  pub to-budget : budget ≤ ticks → stopped b tx rx ticks Done ≡ runOf layouts budget 0 b₀ tx₀ rx₀
   unfolding runOf
-  to-budget h = let z : budget - ticks ≡ 0 = omega arith in sym (ap (λ (m : ℕ). runOf ours m ticks b tx rx) z) ∙ v .whole
+  to-budget h = let z : budget - ticks ≡ 0 = omega arith in sym (ap (λ (m : ℕ). runOf layouts m ticks b tx rx) z) ∙ v .whole
 
   pub host-now : HostFit b
   host-now = host-fit b (v .fit .ready .rules)
 
-  module _ (a : Answer) (t r : List ℕ) (e : out a t r ≡ tickOn ours b tx rx) where
+  module _ (a : Answer) (t r : List ℕ) (e : out a t r ≡ tickOn layouts b tx rx) where
     kept : Fit (a .state) t r
     kept = subst Kept (sym e) (turn-keeps b tx rx (Tick true) (v .fit))
 
@@ -68,11 +68,11 @@ module _ (budget : ℕ) (b₀ : Bridge) (tx₀ rx₀ : List ℕ) (ticks : ℕ) (
     same-rx = kept .ready .rx-length ∙ sym (v .lent .rx-length)
 
     module _ (h : ticks < budget) (i : Bool) (p : i ≡ atRest b) (q : i ≡ false) (n : ℕ) (m : n ≡ noteNumber (a .note)) where
-      turned-once : after (budget - (ticks + 1)) ticks (out a t r) ≡ runOf ours budget 0 b₀ tx₀ rx₀
+      turned-once : after (budget - (ticks + 1)) ticks (out a t r) ≡ runOf layouts budget 0 b₀ tx₀ rx₀
       unfolding runOf
       turned-once =
           ap (after (budget - (ticks + 1)) ticks) e ∙ pick-false _ _ _ _ (sym p ∙ q) refl
-          ∙ sym (ap (λ (k : ℕ). runOf ours k ticks b tx rx) (less h)) ∙ v .whole
+          ∙ sym (ap (λ (k : ℕ). runOf layouts k ticks b tx rx) (less h)) ∙ v .whole
 
       pub again : n ≡ 0 → Inv budget b₀ tx₀ rx₀ (ticks + 1) (a .state) t r
       again z = record {
@@ -81,5 +81,5 @@ module _ (budget : ℕ) (b₀ : Bridge) (tx₀ rx₀ : List ℕ) (ticks : ℕ) (
         lent = v .lent;
       }
 
-      pub to-note : (n ≡ 0 → ⊥) → stopped (a .state) t r (ticks + 1) (a .note) ≡ runOf ours budget 0 b₀ tx₀ rx₀
+      pub to-note : (n ≡ 0 → ⊥) → stopped (a .state) t r (ticks + 1) (a .note) ≡ runOf layouts budget 0 b₀ tx₀ rx₀
       to-note z = pick-ne (noteNumber (a .note)) 0 _ _ _ (λ k. z (m ∙ k)) refl ∙ turned-once

@@ -9,14 +9,14 @@ use lib.Dec.{eqb}
 use lib.ListN.{length}
 use borrow.Author.Tests.{eqb-true, eqb-false}
 use Rattle.base.specs.Pick.{pick, pick-keeps}
-use Rattle.command.specs.Layouts.{Layout, ours}
+use Rattle.command.specs.Layouts.{Layouts, layouts}
 use Rattle.state.specs.Notes.{noteNumber}
 use Rattle.state.specs.Rings.{txSize, rxSize}
 use Rattle.state.specs.declared.Bridge.{Bridge}
 use Rattle.state.specs.declared.Note.{Note}
 use Rattle.state.specs.declared.Note.the-variants.{Done, WrongStores, BrokenRecord, MalformedWord, Discarded, Blocked, CrcRefused, CrcWrong, TxFull, QueueFull, LineBusy, ResetRefused, CutShort, TxEmpty, RxFull, RxEmpty}
 use Rattle.rules.specs.Sound.{sound}
-use Rattle.kept.proofs.Fits.{LayoutFit, ours-fits}
+use Rattle.kept.proofs.Fits.{LayoutFit, layouts-fit}
 use Rattle.kept.proofs.Sound.{sound-facts}
 use Rattle.events.specs.Turn.{Out}
 use Rattle.events.specs.declared.Event.{Event}
@@ -47,7 +47,7 @@ note-done RxFull h = absurd (omega arith)
 note-done RxEmpty h = absurd (omega arith)
 
 -- What is refused, by the test that fails.
-module _ (l : Layout) (b : Bridge) (tx rx : List ℕ) (e : Event) where
+module _ (l : Layouts) (b : Bridge) (tx rx : List ℕ) (e : Event) where
   short-tx : eqb (length tx) txSize ≡ false → step l b tx rx e ≡ refused b tx rx WrongStores
   unfolding step pick
   short-tx t = rw t
@@ -61,7 +61,7 @@ module _ (l : Layout) (b : Bridge) (tx rx : List ℕ) (e : Event) where
     unfolding step pick
     broken r s = rw (t, r, s)
 
-module _ (l : Layout) (fits : LayoutFit l) where
+module _ (l : Layouts) (fits : LayoutFit l) where
   -- n ticks more, after so many
   record Goes (budget ticks : ℕ) (c : Config) (e : End) : Type 0 where
     n : ℕ
@@ -211,11 +211,11 @@ module _ (l : Layout) (fits : LayoutFit l) where
 
 -- For the layout in force.
 pub drained-steps : (b : Bridge) (tx rx : List ℕ) (budget : ℕ) → length (b .sending .queue .places) ≡ 8
-    → Stepped ours (record { bridge = b; tx = tx; rx = rx }) budget (drain ours b tx rx budget)
-drained-steps = drain-steps ours ours-fits
+    → Stepped layouts (record { bridge = b; tx = tx; rx = rx }) budget (drain layouts b tx rx budget)
+drained-steps = drain-steps layouts layouts-fit
 
 -- Told by `step` there is one end of draining, and so one count.
-module _ (l : Layout) (c : Config) (budget : ℕ) where
+module _ (l : Layouts) (c : Config) (budget : ℕ) where
   not-fewer : (e f : End) → Stepped l c budget e → Stepped l c budget f → e .drained .ticks < f .drained .ticks → ⊥
   unfolding lastNote pick
   not-fewer e f s t h = told (refuses (noteAt l c 0)) refl

@@ -8,7 +8,7 @@ use native.Mathlib.Omega.{arith}
 use lib.Dec.{eqb}
 use borrow.Author.Tests.{leb-true, eqb-true, eq-eqb}
 use Rattle.base.specs.Pick.{pick, pick-keeps, and-l, and-r}
-use Rattle.command.specs.Layouts.{Layout}
+use Rattle.command.specs.Layouts.{Layouts}
 use Rattle.line.specs.Format.{pieceLength}
 use Rattle.line.specs.Reader.{hear}
 use Rattle.line.specs.declared.Ear.the-variants.{Quiet}
@@ -101,12 +101,12 @@ module _ (b : Bridge) (v : Steady b) where
       go true e = refl
       go false e = absurd (omega (arith, goes 0 e .less))
 
-turn-goes : (l : Layout) (b : Bridge) (tx rx : List ℕ) → Steady b → atRest b ≡ false
+turn-goes : (l : Layouts) (b : Bridge) (tx rx : List ℕ) → Steady b → atRest b ≡ false
     → Goes b (tickOn l b tx rx .answer .state) (tickOn l b tx rx .answer .note)
 unfolding turn turned reacted
 turn-goes l b tx rx v g = goes b v (oldest tx (b .sending .tx)) g
 
-runs : (l : Layout) (budget ticks : ℕ) (b : Bridge) (tx rx : List ℕ) → Steady b → remaining (b .sending) ≤ budget
+runs : (l : Layouts) (budget ticks : ℕ) (b : Bridge) (tx rx : List ℕ) → Steady b → remaining (b .sending) ≤ budget
     → Rests (runOf l budget ticks b tx rx) (ticks + remaining (b .sending))
 unfolding runOf
 runs l zero ticks b tx rx v h = record { ticks = omega arith; note = refl; rest = none-rests b v h }
@@ -137,7 +137,7 @@ idle-remaining b c =
     omega arith
 
 -- "with neither note 1 nor 2 due and budget enough, it is the sum over queued commands"
-pub drained-sum : (l : Layout) (b : Bridge) (tx rx : List ℕ) (budget : ℕ) → Calm b → Accepted b tx rx → ticksDue b ≤ budget
+pub drained-sum : (l : Layouts) (b : Bridge) (tx rx : List ℕ) (budget : ℕ) → Calm b → Accepted b tx rx → ticksDue b ≤ budget
     → Rests (drain l b tx rx budget) (ticksDue b)
 unfolding drain pick
 drained-sum l b tx rx budget c a h =

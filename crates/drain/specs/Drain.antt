@@ -7,7 +7,7 @@ use Prim.Native.Nat.{ℕ, zero, suc, _+_}
 use lib.Dec.{ltb, eqb}
 use lib.ListN.{length}
 use Rattle.base.specs.Pick.{pick}
-use Rattle.command.specs.Layouts.{Layout}
+use Rattle.command.specs.Layouts.{Layouts}
 use Rattle.state.specs.Notes.{noteNumber}
 use Rattle.state.specs.Rings.{txSize, rxSize}
 use Rattle.state.specs.Sending.{idle}
@@ -43,11 +43,11 @@ abbrev pub atRest : Bridge → Bool
 atRest b = idle (b .sending .sender) && not (mayStart (b .control) && ltb (b .sending .queue .begun) (b .sending .queue .used))
 
 -- "ticks with SIN 1"
-abbrev pub tickOn : Layout → Bridge → List ℕ → List ℕ → Out
+abbrev pub tickOn : Layouts → Bridge → List ℕ → List ℕ → Out
 tickOn l b tx rx = turn l b tx rx (Tick true)
 
 -- with this budget left, and so many ticks made so far. A tick with a note is made, so it counts.
-unfoldable pub runOf : Layout → ℕ → ℕ → Bridge → List ℕ → List ℕ → End
+unfoldable pub runOf : Layouts → ℕ → ℕ → Bridge → List ℕ → List ℕ → End
 runOf l zero ticks b tx rx = stopped b tx rx ticks Done
 runOf l (suc budget) ticks b tx rx =
     pick (atRest b) (stopped b tx rx ticks Done)
@@ -57,7 +57,7 @@ runOf l (suc budget) ticks b tx rx =
     (tickOn l b tx rx .answer .note)))
 
 -- Notes 1 and 2 come first, in this order, whatever the budget and also at rest: no tick is made, everything is as lent. 01 Notes
-unfoldable pub drain : Layout → Bridge → List ℕ → List ℕ → ℕ → End
+unfoldable pub drain : Layouts → Bridge → List ℕ → List ℕ → ℕ → End
 drain l b tx rx budget =
     pick (eqb (length tx) txSize)
     (pick (eqb (length rx) rxSize)

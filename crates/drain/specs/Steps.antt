@@ -5,7 +5,7 @@ use mathlib.Core.Bool.{true, false}
 use Prim.Native.Nat.{ℕ, zero, suc, _+_, _≤_, _<_}
 use lib.ListN.{replicate}
 use Rattle.base.specs.Pick.{pick}
-use Rattle.command.specs.Layouts.{Layout}
+use Rattle.command.specs.Layouts.{Layouts}
 use Rattle.state.specs.Notes.{noteNumber}
 use Rattle.state.specs.declared.Note.{Note}
 use Rattle.state.specs.declared.Note.the-variants.{Done}
@@ -14,15 +14,15 @@ use Rattle.bridge.specs.Runs.{Config, refuses, outOf, endOf}
 use Rattle.drain.specs.Drain.{End, atRest}
 
 -- after so many "ticks with SIN 1"
-abbrev pub after : Layout → Config → ℕ → Config
+abbrev pub after : Layouts → Config → ℕ → Config
 after l c n = endOf l c (replicate n (Tick true))
 
 -- the note that the next one has
-abbrev pub noteAt : Layout → Config → ℕ → Note
+abbrev pub noteAt : Layouts → Config → ℕ → Note
 noteAt l c n = outOf l (after l c n) (Tick true) .answer .note
 
 -- the note of the last of n
-unfoldable pub lastNote : Layout → Config → ℕ → Note
+unfoldable pub lastNote : Layouts → Config → ℕ → Note
 lastNote l c zero = Done
 lastNote l c (suc n) = noteAt l c n
 
@@ -30,7 +30,7 @@ lastNote l c (suc n) = noteAt l c n
 abbrev pub leftAt : End → Config
 leftAt e = record { bridge = e .drained .state; tx = e .tx; rx = e .rx }
 
-pub record Stepped (l : Layout) (c : Config) (budget : ℕ) (e : End) : Type 0 where
+pub record Stepped (l : Layouts) (c : Config) (budget : ℕ) (e : End) : Type 0 where
   -- so many steps, and what they leave
   pub left : leftAt e ≡ after l c (e .drained .ticks)
   -- "until the sender is idle and nothing may start, a note other than 0, or the budget's end"

@@ -5,7 +5,7 @@ use events::Event;
 use state::Bridge;
 use state::Note;
 ghost use mathlib.Core.Path.{_≡_};
-ghost use Rattle.command.specs.Layouts.{ours};
+ghost use Rattle.command.specs.Layouts.{layouts};
 ghost use Rattle.events.specs.Turn.{Ready};
 ghost use Rattle.drain.specs.Drain.{end, atRest, runOf, drain as drainOf};
 
@@ -30,7 +30,7 @@ fn at_rest(bridge: Bridge) -> bool
 // two pieces a tick may load, begin or send something, and is a whole turn.
 fn run(bridge: Bridge, tx: &mut [u16], rx: &mut [u16], budget: u32) -> Drained
     requires { ⌜ Ready bridge (now tx) (now rx) ⌝ }
-    ensures { λ r. ⌜ end r (now (tx .exit)) (now (rx .exit)) ≡ runOf ours budget 0 bridge (now (tx .entry)) (now (rx .entry)) ⌝ }
+    ensures { λ r. ⌜ end r (now (tx .exit)) (now (rx .exit)) ≡ runOf layouts budget 0 bridge (now (tx .entry)) (now (rx .entry)) ⌝ }
 {
     let mut b = bridge;
     let mut ticks: u32 = 0;
@@ -81,7 +81,7 @@ fn refused(bridge: Bridge, note: Note) -> Drained
 
 // Until nothing is left to send, a note other than 0, or the budget's end.
 pub fn drain(bridge: Bridge, tx: &mut [u16], rx: &mut [u16], budget: u32) -> Drained
-    ensures { λ r. ⌜ end r (now (tx .exit)) (now (rx .exit)) ≡ drainOf ours bridge (now (tx .entry)) (now (rx .entry)) budget ⌝ }
+    ensures { λ r. ⌜ end r (now (tx .exit)) (now (rx .exit)) ≡ drainOf layouts bridge (now (tx .entry)) (now (rx .entry)) budget ⌝ }
 {
     if tx.len() != 512 {
         return refused(bridge, Note::WrongStores);

@@ -8,7 +8,7 @@ use lib.ListN.{length}
 use lib.Seq.{getD-set-other}
 use borrow.Author.Tests.{lt-ltb}
 use Rattle.base.specs.Pick.{pick}
-use Rattle.command.specs.Layouts.{Layout}
+use Rattle.command.specs.Layouts.{Layouts}
 use Rattle.state.specs.Queue.{noPlace, newPlace, queued, waiting, inUse}
 use Rattle.state.specs.declared.Place.{Place}
 use Rattle.state.specs.declared.Queue.{Queue}
@@ -19,7 +19,7 @@ use Rattle.bridge.specs.Runs.{Config, endOf}
 use Rattle.bridge.proofs.Reached.{Obeys}
 use Rattle.order.specs.Accepted.{Log}
 use Rattle.order.proofs.Waiting.{QueueOk, waiting-push, queue-push}
-use Rattle.callup.specs.CallUp.{callUp, ticksFor}
+use Rattle.callup.specs.CallUp.{callUpTo, ticksFor}
 use Rattle.callup.specs.Taken.{Takes}
 use Rattle.callup.proofs.Taken.{Taken}
 use Rattle.callup.proofs.Frame.{one-record, one-more}
@@ -46,12 +46,12 @@ remaining-same : (s t : Sending) (n : ℕ) → t .sender ≡ s .sender → costO
 unfolding remaining
 remaining-same s t n e w = rw (e, w) (omega arith)
 
-module _ (l : Layout) (c : Config) (g : Log) (ws : List ℕ) (k : Taken l c g ws) (a : Takes c ws) where
+module _ (l : Layouts) (c : Config) (g : Log) (ws : List ℕ) (k : Taken l c g ws) (a : Takes c ws) where
   abbrev q : Queue
   q = c .bridge .sending .queue
 
   abbrev called : Config
-  called = endOf l c (callUp ws)
+  called = endOf l c (callUpTo c ws)
 
   pub tuned-called : (chain : List Bool) (lag : ℕ) → Tuned c chain lag → Tuned called chain lag
   tuned-called chain lag t =

@@ -13,7 +13,7 @@ use borrow.Author.Tests.{ltb-false, le-ltb, eq-eqb, ne-eqb, not-true}
 use Rattle.base.specs.Pick.{pick, pick-keeps, and-l, and-r}
 use Rattle.base.specs.Bits.{val}
 use Rattle.base.specs.Truth.{and-last}
-use Rattle.command.specs.Layouts.{Layout}
+use Rattle.command.specs.Layouts.{Layouts}
 use Rattle.line.specs.Format.{pieceLength}
 use Rattle.line.specs.declared.Ear.{Ear}
 use Rattle.state.specs.Facts.{QueueFit}
@@ -154,14 +154,14 @@ none-begun-left s k e st i z =
     ]
 
 -- One tick with the chain: fair, in tune again, and less is to come.
-pub record Ticked (l : Layout) (c : Config) (chain : List Bool) (b : Bool) (left lag : ℕ) : Type 0 where
+pub record Ticked (l : Layouts) (c : Config) (chain : List Bool) (b : Bool) (left lag : ℕ) : Type 0 where
   pub later : ℕ
   pub tuned : Tuned (next l c (Tick (front chain b))) (behind chain b) later
   pub ticks : Ticking l c (front chain b)
   pub less :
       toSettle (remaining (next l c (Tick (front chain b)) .bridge .sending)) later (length chain) + 1 ≤ toSettle left lag (length chain)
 
-module _ (l : Layout) (fits : LayoutFit l) (c : Config) (chain : List Bool) (lag : ℕ) (t : Tuned c chain lag) (free : Open c) where
+module _ (l : Layouts) (fits : LayoutFit l) (c : Config) (chain : List Bool) (lag : ℕ) (t : Tuned c chain lag) (free : Open c) where
   abbrev here : Sending
   here = c .bridge .sending
 

@@ -6,7 +6,7 @@ use Prim.Native.Nat.{ℕ, _+_, _-_, _≤_}
 use native.Mathlib.Omega.{arith}
 use Rattle.base.specs.Pick.{pick, pick-keeps}
 use Rattle.base.specs.Truth.{never}
-use Rattle.command.specs.Layouts.{Layout}
+use Rattle.command.specs.Layouts.{Layouts}
 use Rattle.line.specs.Reader.{hear}
 use Rattle.line.specs.declared.Ear.{Ear}
 use Rattle.line.specs.declared.Found.{Found}
@@ -89,12 +89,12 @@ por-sent f s =
     (λ d. pick-keeps (λ (g : Flags). g .por ≡ f .por) _ _ _ (λ t. refl) (λ t. refl))
 
 -- What a tick on an open bridge leaves as it was.
-pub record Ticking (l : Layout) (c : Config) (sin : Bool) : Type 0 where
+pub record Ticking (l : Layouts) (c : Config) (sin : Bool) : Type 0 where
   pub still-open : Open (next l c (Tick sin))
   pub cells : next l c (Tick sin) .tx ≡ c .tx
   pub fair : Fair l c (Tick sin)
 
-module _ (l : Layout) (fits : LayoutFit l) (c : Config) (o : Obeys c) (free : Open c) (sin : Bool) where
+module _ (l : Layouts) (fits : LayoutFit l) (c : Config) (o : Obeys c) (free : Open c) (sin : Bool) where
   abbrev word-due : ℕ
   word-due = oldest (c .tx) (c .bridge .sending .tx)
 
@@ -185,7 +185,7 @@ pub none-mine : (c : Config) → Open c → mineOf (c .bridge .frame .phase) ≡
 unfolding mineOf
 none-mine c o = rw (o .idle-frame) refl
 
-module _ (l : Layout) (fits : LayoutFit l) (c : Config) (chain : List Bool) (lag : ℕ) (t : Tuned c chain lag) (free : Open c) where
+module _ (l : Layouts) (fits : LayoutFit l) (c : Config) (chain : List Bool) (lag : ℕ) (t : Tuned c chain lag) (free : Open c) where
   -- the rules of the sending side, with no frame open
   pub send-rules : SendRules (c .bridge .sending) 0 0
   send-rules = rw (none-to-come c free, none-mine c free) at (t .obeys .rules .sending)

@@ -3,6 +3,7 @@
 use mathlib.Core.Path.{_≡_, refl}
 use mathlib.Core.Bool.{Bool, true, false, _&&_, _||_}
 use Prim.Native.Nat.{ℕ}
+use Rattle.layout.specs.declared.Layout.{Layout}
 use Rattle.base.specs.Pick.{pick, pick-keeps, and-l, and-r}
 use Rattle.command.specs.declared.Command.the-variants.{Filler, Malformed, Forward, DataRead, RegisterWrite, RegisterRead, SoftReset}
 use Rattle.line.specs.Reader.{hear}
@@ -12,14 +13,14 @@ use Rattle.line.specs.declared.Found.the-variants.{Nothing, Start, Word, End, C
 use Rattle.reader.specs.Reader.{wordTaken, ended, takenBy, tickReader}
 use Rattle.reader.specs.declared.Taken.{Taken}
 use Rattle.registers.specs.Raising.{raised, wentBad}
-use Rattle.registers.specs.Registers.{blocking, isNormal, rxff, table, powerUpFlags, powerUpControl}
+use Rattle.registers.specs.Registers.{blocking, isNormal, rxff, powerUpFlags, powerUpControl}
 use Rattle.registers.specs.declared.Flags.{Flags}
 use Rattle.registers.specs.declared.Mode.{Mode}
 use Rattle.registers.specs.declared.Mode.the-variants.{Normal, Init, Failsafe}
 use Rattle.next.specs.Next.{mayStart}
 use Rattle.sender.specs.Sender.{tickSender}
 use Rattle.sender.specs.declared.Sent.{Sent}
-use Rattle.state.specs.Power.{powerUp, badControl, powerUpBad}
+use Rattle.state.specs.Power.{powerUpIn, badControl, powerUpBadIn}
 use Rattle.state.specs.declared.Bridge.{Bridge}
 use Rattle.state.specs.declared.Phase.{Phase}
 use Rattle.state.specs.declared.Phase.the-variants.{Idle, Collecting, Answering, Discarding}
@@ -177,14 +178,14 @@ clock-control b reading r =
     (rw (e .2) (r .word))
     (rw (e .1) (r .marked))
 
-good-control : Obeys powerUp
-unfolding powerUp powerUpControl powerUpFlags table isUnmarked blocking pick
-good-control = record { otp = refl; drdy = refl; word = refl; marked = refl }
+good-control : (layout : Layout) → Obeys (powerUpIn layout)
+unfolding powerUpIn powerUpControl powerUpFlags isUnmarked blocking pick
+good-control layout = record { otp = refl; drdy = refl; word = refl; marked = refl }
 
-bad-control : Obeys powerUpBad
-unfolding powerUpBad badControl powerUpControl powerUpFlags table isUnmarked blocking pick
-bad-control = record { otp = refl; drdy = refl; word = refl; marked = refl }
+bad-control : (layout : Layout) → Obeys (powerUpBadIn layout)
+unfolding powerUpBadIn badControl powerUpControl powerUpFlags isUnmarked blocking pick
+bad-control layout = record { otp = refl; drdy = refl; word = refl; marked = refl }
 
-pub power-control : (good : Bool) → Obeys (powered good)
+pub power-control : (good : Bool) (layout : Layout) → Obeys (powered good layout)
 unfolding powered
-power-control good = pick-keeps Obeys good powerUp powerUpBad (λ h. good-control) (λ h. bad-control)
+power-control good layout = pick-keeps Obeys good _ _ (λ h. good-control layout) (λ h. bad-control layout)

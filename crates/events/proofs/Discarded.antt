@@ -5,7 +5,7 @@ use Prim.Native.Nat.{ℕ}
 use lib.Dec.{ltb, eqb}
 use borrow.Author.Tests.{not-true}
 use Rattle.base.specs.Pick.{pick}
-use Rattle.command.specs.Layouts.{Layout}
+use Rattle.command.specs.Layouts.{Layouts}
 use Rattle.host.specs.Frames.{plannedIn, planned}
 use Rattle.plan.specs.Plan.{noAnswer, marked, settled, concluded, clearedAway, received, performed}
 use Rattle.registers.specs.declared.Control.{Control}
@@ -57,7 +57,7 @@ markedIn b c p = record {
     control = c;
     sending = b .sending;
     receiving = b .receiving;
-    frame = record { phase = p; held = b .frame .held };
+    frame = record { phase = p; held = b .frame .held; xmodem = b .frame .xmodem };
     clock = marked (b .clock);
   };
   sdo = noAnswer;
@@ -67,12 +67,12 @@ markedIn b c p = record {
   rx = Keep;
 }
 
-dropped : (l : Layout) (b : Bridge) (w x : ℕ)
+dropped : (l : Layouts) (b : Bridge) (w x : ℕ)
     → hosted l b (marked (b .clock)) (plannedIn l b Discarding w x) ≡ markedIn b (settled (b .control) (b .receiving .rx .count) false) Discarding
 unfolding plannedIn performed stored done ringAfter clearedAway received concluded pick
 dropped l b w x = refl
 
-pub discarded : (l : Layout) (b : Bridge) (w x y : ℕ) → b .frame .phase ≡ Discarding
+pub discarded : (l : Layouts) (b : Bridge) (w x y : ℕ) → b .frame .phase ≡ Discarding
     → ControlRules (b .control) (b .receiving .rx .count) (b .frame .phase) → reacted l b (Word w) x y ≡ onlyMarked b
 unfolding reacted planned
 discarded l b w x y e r =

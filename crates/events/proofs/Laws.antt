@@ -6,7 +6,7 @@ use Prim.Native.Nat.{ℕ, _+_, _%_, _<_}
 use native.Mathlib.Nat.{mod-lt}
 use native.Mathlib.Omega.{arith}
 use lib.ListN.{set}
-use Rattle.command.specs.Layouts.{Layout}
+use Rattle.command.specs.Layouts.{Layouts}
 use Rattle.state.specs.Facts.{HostFit, Doable}
 use Rattle.state.specs.Rings.{written}
 use Rattle.state.specs.Sending.{stored}
@@ -34,7 +34,7 @@ unfolding written
 to-put size cells r st w e = rw e
 
 -- a plan's deed can be done
-pub plan-doable : (l : Layout) (b : Bridge) (w x : ℕ) (p : Plan) → p ≡ planned l b w x → HostFit b
+pub plan-doable : (l : Layouts) (b : Bridge) (w x : ℕ) (p : Plan) → p ≡ planned l b w x → HostFit b
     → Doable (stored (b .sending) (p .store)) (p .deed)
 plan-doable l b w x p e h = subst (λ (q : Plan). Doable (stored (b .sending) (q .store)) (q .deed)) (sym e) (doable-planned l b h w x)
 
@@ -43,12 +43,12 @@ pub cut-doable : (b : Bridge) (p : Plan) → p ≡ releasedIn b (b .frame .phase
 cut-doable b p e h = subst (λ (q : Plan). Doable (stored (b .sending) (q .store)) (q .deed)) (sym e) (doable-released b h)
 
 -- a plan carried out: the whole record, by the part that a function told
-pub to-hosted : (l : Layout) (b : Bridge) (clock : Clock) (p : Plan) (after : Bridge) → after ≡ performed l b clock p
+pub to-hosted : (l : Layouts) (b : Bridge) (clock : Clock) (p : Plan) (after : Bridge) → after ≡ performed l b clock p
     → _≡_ {A = Did} (record { bridge = after; sdo = p .sdo; sout = true; note = p .note; tx = p .store; rx = Keep }) (hosted l b clock p)
 to-hosted l b clock p after e = rw e
 
 -- the plan of an event
-pub to-plan : (l : Layout) (b : Bridge) (c k : Clock) (p q : Plan) (d : Did) → c ≡ k → p ≡ q → d ≡ hosted l b c p → d ≡ hosted l b k q
+pub to-plan : (l : Layouts) (b : Bridge) (c k : Clock) (p q : Plan) (d : Did) → c ≡ k → p ≡ q → d ≡ hosted l b c p → d ≡ hosted l b k q
 to-plan l b c k p q d e f h = h ∙ ap₂ (λ (m : Clock) (r : Plan). hosted l b m r) e f
 
 -- the cell that a word goes to is one of the ring's

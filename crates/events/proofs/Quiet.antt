@@ -2,12 +2,13 @@
 use mathlib.Core.Path.{_≡_, refl}
 use mathlib.Core.Bool.{Bool, true, false}
 use Prim.Native.Nat.{ℕ}
+use Rattle.layout.specs.declared.Layout.{Layout}
 use Rattle.base.specs.Pick.{pick, pick-keeps}
 use Rattle.events.specs.Events.{powered}
 use Rattle.clock.specs.Clock.{watchFires, flagsAt, controlAt, clocked}
 use Rattle.plan.specs.Plan.{settled}
 use Rattle.rules.proofs.Facts.{power-up-sound, power-up-bad-sound}
-use Rattle.state.specs.Power.{powerUp, powerUpBad}
+use Rattle.state.specs.Power.{powerUpIn, powerUpBadIn}
 use Rattle.state.specs.declared.Bridge.{Bridge}
 use Rattle.kept.proofs.Sound.{sound-facts}
 use Rattle.kept.proofs.Marks.{sent-marks}
@@ -18,17 +19,17 @@ use Rattle.registers.specs.Registers.{rxff}
 use Rattle.registers.specs.declared.Flags.{Flags}
 use Rattle.events.proofs.Control.{clock-control}
 
-good-rules : BridgeRules powerUp
-unfolding powerUp
-good-rules = sound-facts powerUp power-up-sound refl
+good-rules : (layout : Layout) → BridgeRules (powerUpIn layout)
+unfolding powerUpIn
+good-rules layout = sound-facts (powerUpIn layout) (power-up-sound layout) refl
 
-bad-rules : BridgeRules powerUpBad
-unfolding powerUpBad
-bad-rules = sound-facts powerUpBad power-up-bad-sound refl
+bad-rules : (layout : Layout) → BridgeRules (powerUpBadIn layout)
+unfolding powerUpBadIn
+bad-rules layout = sound-facts (powerUpBadIn layout) (power-up-bad-sound layout) refl
 
-pub power-keeps : (good : Bool) → BridgeRules (powered good)
+pub power-keeps : (good : Bool) (layout : Layout) → BridgeRules (powered good layout)
 unfolding powered
-power-keeps good = pick-keeps BridgeRules good powerUp powerUpBad (λ h. good-rules) (λ h. bad-rules)
+power-keeps good layout = pick-keeps BridgeRules good _ _ (λ h. good-rules layout) (λ h. bad-rules layout)
 
 -- the SIN flag is no RX flag
 still-heard : (f : Flags) (fires : Bool) → rxff (flagsAt f fires) ≡ rxff f
@@ -50,4 +51,5 @@ clock-keeps b reading r = record {
       (r .marks);
   control = clock-control b reading (r .control);
   regs = r .regs;
+  algorithm = r .algorithm;
 }

@@ -119,6 +119,7 @@ tick-keeps b sin w r =
       marks = tick-marks (b .receiving) (s .sending .queue) f (a .queue) (a .eight) (t .0 .standing) v sin;
       control = tick-control b sin w (r .control);
       regs = r .regs;
+      algorithm = r .algorithm;
     }
 
 pub tick-sound : (b : Bridge) (sin : Bool) (w : ℕ) → length (b .sending .queue .places) ≡ 8 → sound b ≡ true → sound (ticked b sin w .bridge) ≡ true

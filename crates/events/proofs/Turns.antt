@@ -4,7 +4,8 @@ use mathlib.Core.Bool.{Bool}
 use mathlib.Core.List.{List}
 use Prim.Native.Nat.{ℕ, _<_}
 use lib.ListN.{length, getD}
-use Rattle.command.specs.Layouts.{Layout, ours}
+use Rattle.layout.specs.declared.Layout.{Layout}
+use Rattle.command.specs.Layouts.{Layouts, layouts}
 use Rattle.state.specs.Facts.{RingFit, HostFit}
 use Rattle.state.specs.Rings.{written}
 use Rattle.state.specs.declared.Bridge.{Bridge}
@@ -16,11 +17,11 @@ use Rattle.ticks.specs.declared.Did.{Did}
 use Rattle.events.specs.declared.Event.{Event}
 
 -- an arm knows the event
-pub to-event : (l : Layout) (b : Bridge) (e v : Event) (w x : ℕ) (d : Did) → v ≡ e → d ≡ reacted l b e w x → d ≡ reacted l b v w x
+pub to-event : (l : Layouts) (b : Bridge) (e v : Event) (w x : ℕ) (d : Did) → v ≡ e → d ≡ reacted l b e w x → d ≡ reacted l b v w x
 to-event l b e v w x d h k = k ∙ ap (λ (u : Event). reacted l b u w x) (sym h)
 
-pub to-powered : (good : Bool) (p : Bridge) (d : Did) → p ≡ powered good → d ≡ quietly p → d ≡ quietly (powered good)
-to-powered good p d e h = h ∙ ap (λ (q : Bridge). quietly q) e
+pub to-powered : (good : Bool) (layout : Layout) (p : Bridge) (d : Did) → p ≡ powered good layout → d ≡ quietly p → d ≡ quietly (powered good layout)
+to-powered good layout p d e h = h ∙ ap (λ (q : Bridge). quietly q) e
 
 -- what a turn is lent
 module _ (b : Bridge) (tx rx : List ℕ) (r : Ready b tx rx) where
@@ -39,8 +40,8 @@ module _ (b : Bridge) (tx rx : List ℕ) (r : Ready b tx rx) where
   pub rx-head : b .receiving .rx .head < length rx
   rx-head = ready-rx .head
 
-  pub to-turn : (e : Event) (d : Did) (t u : List ℕ) → d ≡ reacted ours b e (getD tx (b .sending .tx .head) 0) (getD rx (b .receiving .rx .head) 0)
+  pub to-turn : (e : Event) (d : Did) (t u : List ℕ) → d ≡ reacted layouts b e (getD tx (b .sending .tx .head) 0) (getD rx (b .receiving .rx .head) 0)
       → t ≡ written (length tx) tx (b .sending .tx) (d .tx) → u ≡ written (length rx) rx (b .receiving .rx) (d .rx)
-      → out (record { state = d .bridge; sdo = d .sdo; sout = d .sout; note = d .note }) t u ≡ turn ours b tx rx e
+      → out (record { state = d .bridge; sdo = d .sdo; sout = d .sout; note = d .note }) t u ≡ turn layouts b tx rx e
   unfolding turn turned
   to-turn e d t u h k m = rw (k, m, r .tx-length, r .rx-length, h) refl

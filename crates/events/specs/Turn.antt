@@ -4,7 +4,7 @@ use mathlib.Core.Bool.{Bool, true, false}
 use mathlib.Core.List.{List}
 use Prim.Native.Nat.{ℕ}
 use lib.ListN.{length}
-use Rattle.command.specs.Layouts.{Layout}
+use Rattle.command.specs.Layouts.{Layouts}
 use Rattle.state.specs.Rings.{txSize, rxSize, oldest, written}
 use Rattle.rules.specs.Sound.{sound}
 use Rattle.state.specs.declared.Bridge.{Bridge}
@@ -34,7 +34,7 @@ turned b tx rx d =
     out (record { state = d .bridge; sdo = d .sdo; sout = d .sout; note = d .note }) (written txSize tx (b .sending .tx) (d .tx))
     (written rxSize rx (b .receiving .rx) (d .rx))
 
-unfoldable pub turn : Layout → Bridge → List ℕ → List ℕ → Event → Out
+unfoldable pub turn : Layouts → Bridge → List ℕ → List ℕ → Event → Out
 turn l b tx rx e = turned b tx rx (reacted l b e (oldest tx (b .sending .tx)) (oldest rx (b .receiving .rx)))
 
 -- two answers with their stores that satisfy one contract are the same

@@ -1,6 +1,7 @@
 // One event (01 What the bridge is): what its rule does to the state, and the cells that it writes. Only this crate touches the stores.
 mod react;
 
+use layout::Layout;
 use state::Bridge;
 use state::Note;
 use state::Ring;
@@ -8,13 +9,13 @@ use state::Store;
 ghost use mathlib.Core.Path.{_≡_};
 ghost use Prim.Native.Nat.{ℕ};
 ghost use lib.ListN.{length};
-ghost use Rattle.command.specs.Layouts.{ours};
+ghost use Rattle.command.specs.Layouts.{layouts};
 ghost use Rattle.state.specs.Facts.{RingFit};
 ghost use Rattle.state.specs.Rings.{written};
 ghost use Rattle.events.specs.Turn.{out, Ready, turn as turnOf};
 
 pub enum Event {
-    Power(bool),
+    Power { good: bool, layout: Layout },
     Word(u16),
     Release,
     Tick(bool),
@@ -48,7 +49,7 @@ pub fn write_cell(cells: &mut [u16], ring: Ring, store: Store)
 // The event's rule and the cells that it writes.
 pub fn turn(bridge: Bridge, tx: &mut [u16], rx: &mut [u16], event: Event) -> Answer
     requires { ⌜ Ready bridge (now tx) (now rx) ⌝ }
-    ensures { λ r. ⌜ out r (now (tx .exit)) (now (rx .exit)) ≡ turnOf ours bridge (now (tx .entry)) (now (rx .entry)) event ⌝ }
+    ensures { λ r. ⌜ out r (now (tx .exit)) (now (rx .exit)) ≡ turnOf layouts bridge (now (tx .entry)) (now (rx .entry)) event ⌝ }
 {
     let tx_ring = bridge.sending.tx;
     let rx_ring = bridge.receiving.rx;

@@ -8,16 +8,17 @@ use native.Mathlib.Omega.{arith}
 use lib.ListN.{length, take}
 use Rattle.base.specs.Pick.{pick}
 use Rattle.base.specs.Truth.{never}
-use Rattle.command.specs.Layouts.{ours}
+use Rattle.command.specs.Layouts.{layouts}
+use Rattle.registers.specs.declared.Regs.{Regs}
 use Rattle.events.specs.declared.Event.{Event}
 use Rattle.bridge.specs.Runs.{Config, ticksIn, endOf}
 use Rattle.bridge.proofs.Ticks.{ticks-append}
 use Rattle.verdict.specs.Verdicts.{isTaken}
 use Rattle.verdict.specs.declared.Verdict.{Verdict}
 use Rattle.verdict.specs.declared.Verdict.the-variants.{Taken}
-use Rattle.frames.specs.Frames.{frameOf}
 use Rattle.frames.specs.declared.Order.the-variants.{FwdWrCrc}
-use Rattle.callup.specs.CallUp.{vsync, given, callUp}
+use Rattle.callup.specs.CallUp.{vsync, given, callUp, callUpTo}
+use Rattle.frames_found.specs.Found.{frameIn}
 use Rattle.callup.proofs.CallUp.{end-append}
 use Rattle.board.specs.Board.{showing, verdictOf, takenOf, callUpOf}
 use Rattle.board.specs.declared.Board.{Board}
@@ -35,10 +36,10 @@ use Rattle.forty.specs.Forty.{Counted}
 use Rattle.forty.proofs.Ring.{under-front, under-behind}
 
 -- 1. The chain: what comes back is the oldest bit under way.
-pub gives-back : (m : Moment) → underWay m ++ (echo ours (m .at) ∷ []) ≡ sinAt m ∷ underWay (ticked m)
+pub gives-back : (m : Moment) → underWay m ++ (echo layouts (m .at) ∷ []) ≡ sinAt m ∷ underWay (ticked m)
 unfolding ticked
 gives-back m =
-    let b : Bool = echo ours (m .at) in
+    let b : Bool = echo layouts (m .at) in
     fed-in (under (m .chain) (m .oldest)) b
     ∙ rw (under-front (m .chain) (m .oldest) b, under-behind (m .chain) (m .oldest) b) refl
 
@@ -48,15 +49,15 @@ unfolding given ticksIn
 given-none [] = refl
 given-none (w ∷ ws) = given-none ws
 
-call-none : (ws : List ℕ) → ticksIn (callUp ws) ≡ 0
+call-none : (r : Regs) (ws : List ℕ) → ticksIn (callUp r ws) ≡ 0
 unfolding callUp
-call-none ws =
-    ticks-append (given (frameOf FwdWrCrc ws)) (given (frameOf FwdWrCrc (vsync ∷ [])))
-    ∙ omega (arith, given-none (frameOf FwdWrCrc ws), given-none (frameOf FwdWrCrc (vsync ∷ [])))
+call-none r ws =
+    ticks-append (given (frameIn r FwdWrCrc ws)) (given (frameIn r FwdWrCrc (vsync ∷ [])))
+    ∙ omega (arith, given-none (frameIn r FwdWrCrc ws), given-none (frameIn r FwdWrCrc (vsync ∷ [])))
 
 -- what events lead to, and how many ticks are among them
 pub record Leads (c : Config) (es : List Event) (d : Config) (n m : ℕ) : Type 0 where
-  pub ends : endOf ours c es ≡ d
+  pub ends : endOf layouts c es ≡ d
   pub ticks : n + ticksIn es ≡ m
 
 leads-none : (c : Config) (n : ℕ) → Leads c [] c n n
@@ -66,14 +67,14 @@ leads-none c n = record { ends = refl; ticks = omega arith }
 leads-then : (c d e : Config) (a b : List Event) (n m k : ℕ) → Leads c a d n m → Leads d b e m k → Leads c (a ++ b) e n k
 leads-then c d e a b n m k x y =
     record {
-      ends = end-append ours c a b ∙ ap (λ (z : Config). endOf ours z b) (x .ends) ∙ y .ends;
+      ends = end-append layouts c a b ∙ ap (λ (z : Config). endOf layouts z b) (x .ends) ∙ y .ends;
       ticks = omega (arith, ticks-append a b, x .ticks, y .ticks);
     }
 
 by-met : (goal : Goal) (budget : ℕ) (w : Waiting) (t : Bool) → met goal (w .moment .at) ≡ t
     → Leads (ticked (w .moment) .at) (waitEvents budget goal (ticked (w .moment)))
-    (waitOf budget goal (waiting (ticked (w .moment)) (w .ticks + 1) (echo ours (w .moment .at))) .moment .at) (w .ticks + 1)
-    (waitOf budget goal (waiting (ticked (w .moment)) (w .ticks + 1) (echo ours (w .moment .at))) .ticks)
+    (waitOf budget goal (waiting (ticked (w .moment)) (w .ticks + 1) (echo layouts (w .moment .at))) .moment .at) (w .ticks + 1)
+    (waitOf budget goal (waiting (ticked (w .moment)) (w .ticks + 1) (echo layouts (w .moment .at))) .ticks)
     → Leads (w .moment .at) (waitEvents (suc budget) goal (w .moment)) (waitOf (suc budget) goal w .moment .at) (w .ticks) (waitOf (suc budget) goal w .ticks)
 unfolding waitEvents waitOf pick
 by-met goal budget w true h x = rw h (leads-none (w .moment .at) (w .ticks))
@@ -85,7 +86,7 @@ wait-leads : (budget : ℕ) (goal : Goal) (w : Waiting)
 wait-leads zero goal w = unfold waitEvents waitOf in leads-none (w .moment .at) (w .ticks)
 wait-leads (suc budget) goal w =
     by-met goal budget w (met goal (w .moment .at)) refl
-    (wait-leads budget goal (waiting (ticked (w .moment)) (w .ticks + 1) (echo ours (w .moment .at))))
+    (wait-leads budget goal (waiting (ticked (w .moment)) (w .ticks + 1) (echo layouts (w .moment .at))))
 
 -- a wait that begins after n ticks
 wait-from : (budget : ℕ) (goal : Goal) (m : Moment) (n : ℕ)
@@ -131,7 +132,7 @@ module _ (d : Due) (ds : List Due) (s : Shifting) (budget : ℕ) where
   abbrev took : Offer
   took = record {
     board = showing (s .board) (d .slot) (d .reading) (d .words);
-    moment = record { at = endOf ours (w .moment .at) (callUp (d .words)); chain = w .moment .chain; oldest = w .moment .oldest };
+    moment = record { at = endOf layouts (w .moment .at) (callUpTo (w .moment .at) (d .words)); chain = w .moment .chain; oldest = w .moment .oldest };
     verdict = Taken;
     ticks = w .ticks;
   }
@@ -171,8 +172,8 @@ module _ (d : Due) (ds : List Due) (s : Shifting) (budget : ℕ) where
       rw (offer-took h)
       (record {
         leads =
-            leads-then _ _ _ (before ++ callUp (d .words)) (shiftEvents ds (takenAfter s took) budget) _ _ _
-            (leads-then _ _ _ before (callUp (d .words)) _ _ _ (wait-from (budget - s .ticks) goal (s .moment) (s .ticks)) called-on)
+            leads-then _ _ _ (before ++ callUpTo (w .moment .at) (d .words)) (shiftEvents ds (takenAfter s took) budget) _ _ _
+            (leads-then _ _ _ before (callUpTo (w .moment .at) (d .words)) _ _ _ (wait-from (budget - s .ticks) goal (s .moment) (s .ticks)) called-on)
             (t .leads);
         count = suc (t .count);
         taken-is = omega (arith, t .taken-is);
@@ -181,8 +182,8 @@ module _ (d : Due) (ds : List Due) (s : Shifting) (budget : ℕ) where
         all-of-them = λ e. ap suc (t .all-of-them e);
       })
     where
-      called-on : Leads (w .moment .at) (callUp (d .words)) (endOf ours (w .moment .at) (callUp (d .words))) (s .ticks + w .ticks) (s .ticks + w .ticks)
-      called-on = record { ends = refl; ticks = omega (arith, call-none (d .words)) }
+      called-on : Leads (w .moment .at) (callUpTo (w .moment .at) (d .words)) (endOf layouts (w .moment .at) (callUpTo (w .moment .at) (d .words))) (s .ticks + w .ticks) (s .ticks + w .ticks)
+      called-on = record { ends = refl; ticks = omega (arith, call-none (w .moment .at .bridge .control .regs) (d .words)) }
 
   by-verdict : (t : Bool) → isTaken due ≡ t
       → Told ds (takenAfter s took) (shiftFrom ds (takenAfter s took) budget) (shiftEvents ds (takenAfter s took) budget)
@@ -208,7 +209,7 @@ shift-counted board m ds budget =
     }
 
 pub shift-given : (board : Board) (m : Moment) (ds : List Due) (budget : ℕ)
-    → endOf ours (m .at) (shiftEvents ds (shifting board m Taken 0 0) budget) ≡ shiftFrom ds (shifting board m Taken 0 0) budget .moment .at
+    → endOf layouts (m .at) (shiftEvents ds (shifting board m Taken 0 0) budget) ≡ shiftFrom ds (shifting board m Taken 0 0) budget .moment .at
 shift-given board m ds budget = shift-told ds (shifting board m Taken 0 0) budget .leads .ends
 
 pub ticks-given : (board : Board) (m : Moment) (ds : List Due) (budget : ℕ)

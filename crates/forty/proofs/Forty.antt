@@ -7,14 +7,15 @@ use native.Mathlib.Omega.{arith}
 use lib.Dec.{ltb, eqb}
 use lib.ListN.{length}
 use borrow.Author.Tests.{eq-eqb, eqb-true, le-ltb, lt-ltb, ne-eqb}
+use Rattle.layout.specs.declared.Layout.{Layout}
 use Rattle.base.specs.Pick.{pick, pick-keeps}
-use Rattle.command.specs.Layouts.{ours}
+use Rattle.command.specs.Layouts.{layouts}
 use Rattle.line.specs.Format.{Words}
 use Rattle.rules.specs.Sound.{sound}
 use Rattle.state.specs.declared.Queue.{Queue}
 use Rattle.state.specs.Queue.{newPlace, queued, inUse}
 use Rattle.events.specs.declared.Event.{Event}
-use Rattle.kept.proofs.Fits.{ours-fits}
+use Rattle.kept.proofs.Fits.{layouts-fit}
 use Rattle.kept.proofs.Queue.{eight-queued}
 use Rattle.bridge.specs.Runs.{Config, RightStores, Whole, endOf, soutOf, powerOn}
 use Rattle.bridge.proofs.Reached.{Obeys, obeys-whole, run-obeys, power-obeys}
@@ -27,11 +28,11 @@ use Rattle.verdict.specs.Verdicts.{lastSlot, callUpMost, hasRoom, roomVerdict, 
 use Rattle.verdict.specs.declared.Verdict.{Verdict}
 use Rattle.verdict.specs.declared.Verdict.the-variants.{Taken, WrongStores, BrokenRecord, NoSlot, WrongLength, NoRoom}
 use Rattle.verdict.proofs.Taking.{Finds, taken-facts}
-use Rattle.callup.specs.CallUp.{callUp, pairs}
+use Rattle.callup.specs.CallUp.{callUpTo, pairs}
 use Rattle.callup.specs.Taken.{Takes}
 use Rattle.callup.proofs.Taken.{Taken as CallTaken}
 use Rattle.callup.proofs.Frame.{logOf, one-more}
-use Rattle.callup.proofs.CallUp.{end-append, log-append, premises-append, ours-speaks, taken}
+use Rattle.callup.proofs.CallUp.{end-append, log-append, premises-append, layouts-speak, taken}
 use Rattle.board.specs.Board.{called, verdictOf, refusedIn, takenOf, callUpOf, slotOf, showing}
 use Rattle.board.specs.declared.Board.{Board}
 use Rattle.board.proofs.Taking.{taken-takes, takes-taken, slot-words, slot-last, slot-other}
@@ -49,8 +50,8 @@ use Rattle.forty.proofs.Rest.{rest-in-tune, rest-settled}
 
 taken-when : (board : Board) (c : Config) (slot reading : ℕ) (ws : List ℕ) → Whole c → slot ≤ lastSlot → Takes c ws
     → callUpOf board c slot reading ws
-    ≡ called (record { board = showing board slot reading ws; bridge = endOf ours c (callUp ws) .bridge; verdict = Taken }) (endOf ours c (callUp ws) .tx)
-    (endOf ours c (callUp ws) .rx)
+    ≡ called (record { board = showing board slot reading ws; bridge = endOf layouts c (callUpTo c ws) .bridge; verdict = Taken }) (endOf layouts c (callUpTo c ws) .tx)
+    (endOf layouts c (callUpTo c ws) .rx)
 unfolding callUpOf takenOf pick
 taken-when board c slot reading ws w s t = rw (takes-taken c slot ws (obeys-whole c w) s t) refl
 
@@ -68,7 +69,7 @@ both-more q n h l =
 
 taken-right : (c : Config) (ws : List ℕ) → Whole c → Takes c ws → TakenRight c ws
 taken-right c ws w t =
-    let k : CallTaken ours c (logOf [] []) ws = taken ours ours-fits ours-speaks c [] ws (obeys-whole c w) t in
+    let k : CallTaken layouts c (logOf [] []) ws = taken layouts layouts-fit layouts-speak c [] ws (obeys-whole c w) t in
     record {
       notes = k .notes;
       two-places = ap (λ (q : Queue). inUse q) (k .queue) ∙ both-more (c .bridge .sending .queue) (length ws) (t .two-places) (obeys-whole c w .rules .sending .eight);
@@ -158,47 +159,47 @@ listed-idle : (D : List (List ℕ)) → listed (logOf D []) ≡ D
 unfolding listed joined
 listed-idle D = refl
 
-module _ (good : Bool) (tx rx : List ℕ) (before : List Event) (board : Board) (m : Moment) (ds : List Due) (budget : ℕ) (stores : RightStores tx rx)
-    (p : Premises ours (powerOn good tx rx) before) (e : m .at ≡ endOf ours (powerOn good tx rx) before) (r : AtRest m) (a : AllRight ds)
+module _ (good : Bool) (layout : Layout) (tx rx : List ℕ) (before : List Event) (board : Board) (m : Moment) (ds : List Due) (budget : ℕ) (stores : RightStores tx rx)
+    (p : Premises layouts (powerOn good layout tx rx) before) (e : m .at ≡ endOf layouts (powerOn good layout tx rx) before) (r : AtRest m) (a : AllRight ds)
     (h : budgetFor (length (m .chain)) ds ≤ budget) where
   abbrev from : Config
-  from = powerOn good tx rx
+  from = powerOn good layout tx rx
 
   abbrev during : List Event
   during = shiftEvents ds (shifting board m Taken 0 0) budget
 
   o : Obeys (m .at)
-  o = rw e (run-obeys ours ours-fits from before (power-obeys ours ours-fits good tx rx stores))
+  o = rw e (run-obeys layouts layouts-fit from before (power-obeys layouts layouts-fit good layout tx rx stores))
 
   abbrev went : Ran ds (shifting board m Taken 0 0) (rest-in-tune m o r) (shiftFrom ds (shifting board m Taken 0 0) budget) during
   went = ran board m ds budget o r a h
 
   -- demand 3's premises hold of both
-  whole-premises : Premises ours from (before ++ during)
-  whole-premises = premises-append ours from before during p (subst (λ (c : Config). Premises ours c during) e (went .premises))
+  whole-premises : Premises layouts from (before ++ during)
+  whole-premises = premises-append layouts from before during p (subst (λ (c : Config). Premises layouts c during) e (went .premises))
 
-  end-there : endOf ours from (before ++ during) ≡ shiftFrom ds (shifting board m Taken 0 0) budget .moment .at
-  end-there = end-append ours from before during ∙ ap (λ (c : Config). endOf ours c during) (sym e) ∙ went .end-is
+  end-there : endOf layouts from (before ++ during) ≡ shiftFrom ds (shifting board m Taken 0 0) budget .moment .at
+  end-there = end-append layouts from before during ∙ ap (λ (c : Config). endOf layouts c during) (sym e) ∙ went .end-is
 
-  accepted-is : acceptedIn ours from (before ++ during) ≡ acceptedIn ours from before ++ pairs (wordsOf ds)
+  accepted-is : acceptedIn layouts from (before ++ during) ≡ acceptedIn layouts from before ++ pairs (wordsOf ds)
   unfolding acceptedIn
   accepted-is =
-      let g : Log = logBy ours noLog from before in
-      let b : Between (endOf ours from before) (soutOf ours from before) g
-      = between-run ours ours-fits from [] noLog before (between-power good tx rx stores) (power-obeys ours ours-fits good tx rx stores) p in
-      let k : g ≡ logOf (g .closed) [] = at-idle (endOf ours from before) _ g b (rw e at (r .free .idle-frame)) in
-      let f : logBy ours noLog from (before ++ during) ≡ logOf (g .closed ++ pairs (wordsOf ds)) []
-      = log-append ours noLog from before during ∙ ap₂ (λ (x : Log) (c : Config). logBy ours x c during) k (sym e) ∙ went .log (g .closed) in
+      let g : Log = logBy layouts noLog from before in
+      let b : Between (endOf layouts from before) (soutOf layouts from before) g
+      = between-run layouts layouts-fit from [] noLog before (between-power good layout tx rx stores) (power-obeys layouts layouts-fit good layout tx rx stores) p in
+      let k : g ≡ logOf (g .closed) [] = at-idle (endOf layouts from before) _ g b (rw e at (r .free .idle-frame)) in
+      let f : logBy layouts noLog from (before ++ during) ≡ logOf (g .closed ++ pairs (wordsOf ds)) []
+      = log-append layouts noLog from before during ∙ ap₂ (λ (x : Log) (c : Config). logBy layouts x c during) k (sym e) ∙ went .log (g .closed) in
       ap listed f ∙ listed-idle (g .closed ++ pairs (wordsOf ds))
       ∙ ap (λ (D : List (List ℕ)). D ++ pairs (wordsOf ds)) (sym (ap listed k ∙ listed-idle (g .closed)))
 
-  line-exact : WholeLine (soutOf ours from (before ++ during)) (acceptedIn ours from before ++ pairs (wordsOf ds))
+  line-exact : WholeLine (soutOf layouts from (before ++ during)) (acceptedIn layouts from before ++ pairs (wordsOf ds))
   line-exact =
-      subst (λ (A : List (List ℕ)). WholeLine (soutOf ours from (before ++ during)) A) accepted-is
-      (exactly-all ours ours-fits good tx rx stores (before ++ during) whole-premises (rw end-there (went .all-sent)))
+      subst (λ (A : List (List ℕ)). WholeLine (soutOf layouts from (before ++ during)) A) accepted-is
+      (exactly-all layouts layouts-fit good layout tx rx stores (before ++ during) whole-premises (rw end-there (went .all-sent)))
 
   line-shows : LineShows from before during ds
-  line-shows = all-sent ours ours-fits good tx rx stores (before ++ during) whole-premises (rw end-there (went .all-sent)) ∙ accepted-is
+  line-shows = all-sent layouts layouts-fit good layout tx rx stores (before ++ during) whole-premises (rw end-there (went .all-sent)) ∙ accepted-is
 
 pub call-up-board : CallUpBoard
 call-up-board =
@@ -212,7 +213,7 @@ call-up-board =
       shows-reading = shows-reading;
       shows-words = slot-words;
       others-stay = slot-other;
-      forty-shown = λ good tx rx board acts s k. night-shown good tx rx s board acts k;
+      forty-shown = λ good layout tx rx board acts s k. night-shown good layout tx rx s board acts k;
       gives-back = gives-back;
       shift-given = shift-given;
       shift-ticks = ticks-given;

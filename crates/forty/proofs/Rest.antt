@@ -8,11 +8,11 @@ use native.Mathlib.Omega.{arith}
 use lib.ListN.{length, take, drop, replicate}
 use borrow.Author.Tests.{le-ltb}
 use Rattle.base.specs.Pick.{pick}
-use Rattle.command.specs.Layouts.{ours}
+use Rattle.command.specs.Layouts.{layouts}
 use Rattle.state.specs.Sending.{idle}
 use Rattle.state.specs.declared.Sender.{Sender}
 use Rattle.state.specs.declared.Sending.{Sending}
-use Rattle.kept.proofs.Fits.{ours-fits}
+use Rattle.kept.proofs.Fits.{layouts-fit}
 use Rattle.drain.proofs.Ticks.{remaining, sentAll, rest-none}
 use Rattle.bridge.proofs.Reached.{Obeys}
 use Rattle.echoes.proofs.Hearing.{out, idle-left}
@@ -89,5 +89,5 @@ module _ (m : Moment) (o : Obeys (m .at)) (r : AtRest m) where
   unfolding toSettle pick rest-in-tune
   rest-settled =
       let a : sentAll s ≡ true = rw (r .sender, le-ltb (s .queue .begun) (s .queue .used) (omega (arith, r .none-queued))) refl in
-      let z : remaining s ≡ 0 = rest-none s 0 0 (send-rules ours ours-fits (m .at) _ 0 rest-tuned (r .free)) a in
+      let z : remaining s ≡ 0 = rest-none s 0 0 (send-rules layouts layouts-fit (m .at) _ 0 rest-tuned (r .free)) a in
       rw z refl

@@ -9,10 +9,10 @@ use lib.ListN.{length}
 use borrow.Author.Tests.{ne-eqb, eqb-true, ltb-false, not-true}
 use Rattle.base.specs.Pick.{pick, pick-keeps, and-l, and-r}
 use Rattle.base.specs.Truth.{never}
-use Rattle.command.specs.Layouts.{ours}
+use Rattle.command.specs.Layouts.{layouts}
 use Rattle.state.specs.Sending.{idle}
 use Rattle.events.specs.declared.Event.{Event}
-use Rattle.kept.proofs.Fits.{ours-fits}
+use Rattle.kept.proofs.Fits.{layouts-fit}
 use Rattle.drain.proofs.Ticks.{remaining}
 use Rattle.bridge.specs.Runs.{Config, endOf, AllSent}
 use Rattle.bridge.proofs.Reached.{Obeys}
@@ -20,11 +20,11 @@ use Rattle.order.specs.Accepted.{Log, logBy}
 use Rattle.order.specs.Premises.{Premises}
 use Rattle.verdict.specs.Verdicts.{lastSlot, callUpMost, hasRoom, isNoRoom}
 use Rattle.verdict.specs.declared.Verdict.the-variants.{Taken, NoRoom}
-use Rattle.callup.specs.CallUp.{vsync, callUp, pairs, ticksFor}
+use Rattle.callup.specs.CallUp.{vsync, callUpTo, pairs, ticksFor}
 use Rattle.callup.specs.Taken.{Open, Takes}
 use Rattle.callup.proofs.Taken.{Taken as CallTaken}
 use Rattle.callup.proofs.Frame.{logOf}
-use Rattle.callup.proofs.CallUp.{end-append, log-append, premises-append, ours-speaks, taken}
+use Rattle.callup.proofs.CallUp.{end-append, log-append, premises-append, layouts-speak, taken}
 use Rattle.board.specs.Board.{showing, verdictOf, takenOf, callUpOf}
 use Rattle.board.proofs.Taking.{taken-takes}
 use Rattle.echoes.proofs.Ticks.{Tuned, may-open}
@@ -85,11 +85,11 @@ module _ (d : Due) (s : Shifting) (i : InTune (s .moment)) (budget : ℕ) (may :
   takes-it : Takes c ws
   takes-it = taken-takes c (d .slot) ws (may .sixteen) (rw is-taken refl)
 
-  took : (D : List (List ℕ)) → CallTaken ours c (logOf D []) ws
-  took D = taken ours ours-fits ours-speaks c D ws (has-waited .there .tuned .obeys) takes-it
+  took : (D : List (List ℕ)) → CallTaken layouts c (logOf D []) ws
+  took D = taken layouts layouts-fit layouts-speak c D ws (has-waited .there .tuned .obeys) takes-it
 
   abbrev after : Moment
-  after = record { at = endOf ours c (callUp ws); chain = w .moment .chain; oldest = w .moment .oldest }
+  after = record { at = endOf layouts c (callUpTo c ws); chain = w .moment .chain; oldest = w .moment .oldest }
 
   offer-is : nextOffer d s budget ≡ record { board = showing (s .board) (d .slot) (d .reading) ws; moment = after; verdict = Taken; ticks = w .ticks }
   unfolding offerOf callUpOf takenOf pick
@@ -100,18 +100,18 @@ module _ (d : Due) (s : Shifting) (i : InTune (s .moment)) (budget : ℕ) (may :
     pub there : InTune after
     pub cost : settling after there + w .ticks ≤ settling (s .moment) i + ticksFor (length ws) + length (s .moment .chain)
     pub same-delay : length (after .chain) ≡ length (s .moment .chain)
-    pub end-is : endOf ours (s .moment .at) (es ++ callUp ws) ≡ after .at
-    pub premises : Premises ours (s .moment .at) (es ++ callUp ws)
-    pub log : (D : List (List ℕ)) → logBy ours (logOf D []) (s .moment .at) (es ++ callUp ws) ≡ logOf (D ++ (ws ∷ (vsync ∷ []) ∷ [])) []
+    pub end-is : endOf layouts (s .moment .at) (es ++ callUpTo c ws) ≡ after .at
+    pub premises : Premises layouts (s .moment .at) (es ++ callUpTo c ws)
+    pub log : (D : List (List ℕ)) → logBy layouts (logOf D []) (s .moment .at) (es ++ callUpTo c ws) ≡ logOf (D ++ (ws ∷ (vsync ∷ []) ∷ [])) []
 
   pub called : Called
   called =
-      let k : CallTaken ours c (logOf [] []) ws = took [] in
+      let k : CallTaken layouts c (logOf [] []) ws = took [] in
       let v : Waited (Room (d .slot) (length ws)) (waiting (s .moment) 0 true) i w es = has-waited in
       let t : Tuned (after .at) (under (after .chain) (after .oldest)) (v .there .lag)
-      = tuned-called ours c (logOf [] []) ws k takes-it (under (after .chain) (after .oldest)) (v .there .lag) (v .there .tuned) in
+      = tuned-called layouts c (logOf [] []) ws k takes-it (under (after .chain) (after .oldest)) (v .there .lag) (v .there .tuned) in
       let m : remaining (after .at .bridge .sending) ≡ remaining (c .bridge .sending) + ticksFor (length ws)
-      = more-left ours c (logOf [] []) ws k takes-it (v .there .tuned .obeys) in
+      = more-left layouts c (logOf [] []) ws k takes-it (v .there .tuned .obeys) in
       let x : suc (54 + 17 * length ws) ≡ ticksFor (length ws) = omega arith in
       let f : Open (after .at) = record {
         normal = k .same .mode ∙ v .there .free .normal;
@@ -129,11 +129,11 @@ module _ (d : Due) (s : Shifting) (i : InTune (s .moment)) (budget : ℕ) (may :
               v .same-delay,
             );
         same-delay = v .same-delay;
-        end-is = end-append ours (s .moment .at) es (callUp ws) ∙ ap (λ (y : Config). endOf ours y (callUp ws)) (v .end-is);
-        premises = premises-append ours (s .moment .at) es (callUp ws) (v .premises) (rw (v .end-is) (k .premises));
+        end-is = end-append layouts (s .moment .at) es (callUpTo c ws) ∙ ap (λ (y : Config). endOf layouts y (callUpTo c ws)) (v .end-is);
+        premises = premises-append layouts (s .moment .at) es (callUpTo c ws) (v .premises) (rw (v .end-is) (k .premises));
         log = λ D.
-            log-append ours (logOf D []) (s .moment .at) es (callUp ws)
-            ∙ ap₂ (λ (g : Log) (y : Config). logBy ours g y (callUp ws)) (v .log D) (v .end-is) ∙ took D .log;
+            log-append layouts (logOf D []) (s .moment .at) es (callUpTo c ws)
+            ∙ ap₂ (λ (g : Log) (y : Config). logBy layouts g y (callUpTo c ws)) (v .log D) (v .end-is) ∙ took D .log;
       }
 
 -- What a shift leaves, r, and its events.
@@ -144,9 +144,9 @@ pub record Ran (ds : List Due) (s : Shifting) (i : InTune (s .moment)) (r : Shif
   pub board-is : r .board ≡ boardAfter (s .board) ds
   pub there : InTune (r .moment)
   pub all-sent : AllSent (r .moment .at .bridge .sending)
-  pub end-is : endOf ours (s .moment .at) es ≡ r .moment .at
-  pub premises : Premises ours (s .moment .at) es
-  pub log : (D : List (List ℕ)) → logBy ours (logOf D []) (s .moment .at) es ≡ logOf (D ++ pairs (wordsOf ds)) []
+  pub end-is : endOf layouts (s .moment .at) es ≡ r .moment .at
+  pub premises : Premises layouts (s .moment .at) es
+  pub log : (D : List (List ℕ)) → logBy layouts (logOf D []) (s .moment .at) es ≡ logOf (D ++ pairs (wordsOf ds)) []
 
 -- all sent, by the test of a wait
 sent-all : (m : Moment) → InTune m → met Sent (m .at) ≡ true → AllSent (m .at .bridge .sending)
@@ -193,7 +193,7 @@ module _ (d : Due) (ds : List Due) (s : Shifting) (i : InTune (s .moment)) (budg
   unfolding shiftFrom pick
   from-is = rw (offer-is d s i budget may h) refl
 
-  events-are : shiftEvents (d ∷ ds) s budget ≡ (es d s i budget may h ++ callUp (d .words)) ++ shiftEvents ds further budget
+  events-are : shiftEvents (d ∷ ds) s budget ≡ (es d s i budget may h ++ callUpTo (c d s i budget may h) (d .words)) ++ shiftEvents ds further budget
   unfolding shiftEvents offerEvents pick
   events-are = rw (offer-is d s i budget may h) refl
 
@@ -201,7 +201,7 @@ module _ (d : Due) (ds : List Due) (s : Shifting) (i : InTune (s .moment)) (budg
       → Ran (d ∷ ds) s i (shiftFrom (d ∷ ds) s budget) (shiftEvents (d ∷ ds) s budget)
   unfolding boardAfter wordsOf pairs budgetFor
   ran-more r =
-      let x : List Event = es d s i budget may h ++ callUp (d .words) in
+      let x : List Event = es d s i budget may h ++ callUpTo (c d s i budget may h) (d .words) in
       let y : List Event = shiftEvents ds further budget in
       let a : Config = s .moment .at in
       rw (from-is, events-are)
@@ -212,11 +212,11 @@ module _ (d : Due) (ds : List Due) (s : Shifting) (i : InTune (s .moment)) (budg
         board-is = r .board-is;
         there = r .there;
         all-sent = r .all-sent;
-        end-is = end-append ours a x y ∙ ap (λ (z : Config). endOf ours z y) (o .end-is) ∙ r .end-is;
-        premises = premises-append ours a x y (o .premises) (rw (o .end-is) (r .premises));
+        end-is = end-append layouts a x y ∙ ap (λ (z : Config). endOf layouts z y) (o .end-is) ∙ r .end-is;
+        premises = premises-append layouts a x y (o .premises) (rw (o .end-is) (r .premises));
         log = λ D.
-            log-append ours (logOf D []) a x y
-            ∙ ap₂ (λ (g : Log) (z : Config). logBy ours g z y) (o .log D) (o .end-is) ∙ r .log (D ++ (d .words ∷ (vsync ∷ []) ∷ []))
+            log-append layouts (logOf D []) a x y
+            ∙ ap₂ (λ (g : Log) (z : Config). logBy layouts g z y) (o .log D) (o .end-is) ∙ r .log (D ++ (d .words ∷ (vsync ∷ []) ∷ []))
             ∙ ap (λ (X : List (List ℕ)). logOf X []) (append-assoc D (d .words ∷ (vsync ∷ []) ∷ []) (pairs (wordsOf ds)));
       })
 

@@ -9,13 +9,13 @@ use lib.ListN.{length}
 use borrow.Author.Tests.{eq-eqb, le-leb, le-ltb, ne-eqb}
 use Rattle.base.specs.Pick.{pick}
 use Rattle.base.specs.Truth.{never}
-use Rattle.command.specs.Layouts.{ours}
+use Rattle.command.specs.Layouts.{layouts}
 use Rattle.state.specs.declared.Phase.the-variants.{Idle}
 use Rattle.state.specs.declared.Queue.{Queue}
 use Rattle.state.specs.Queue.{inUse, placesIn}
 use Rattle.events.specs.declared.Event.{Event}
 use Rattle.events.specs.declared.Event.the-variants.{Tick}
-use Rattle.kept.proofs.Fits.{ours-fits}
+use Rattle.kept.proofs.Fits.{layouts-fit}
 use Rattle.kept.proofs.Sound.{facts-sound}
 use Rattle.drain.proofs.Ticks.{remaining, sentAll}
 use Rattle.bridge.specs.Runs.{Config, next, endOf}
@@ -77,8 +77,8 @@ empty-unused q e = rw e refl
 pub sure-room : (slot n : ℕ) → slot ≤ lastSlot → 1 ≤ n → n ≤ callUpMost → Sure (Room slot n)
 unfolding met hasRoom pick
 sure-room slot n s a b m i z =
-    let e : Empty ours ours-fits (m .at) _ (i .lag) (i .tuned) (i .free)
-    = empties ours ours-fits (m .at) (under (m .chain) (m .oldest)) (i .lag) (i .tuned) (i .free) (rw (length-under (m .chain) (m .oldest)) z) in
+    let e : Empty layouts layouts-fit (m .at) _ (i .lag) (i .tuned) (i .free)
+    = empties layouts layouts-fit (m .at) (under (m .chain) (m .oldest)) (i .lag) (i .tuned) (i .free) (rw (length-under (m .chain) (m .oldest)) z) in
     rw (
       verdict-open (m .at) slot n (i .tuned .obeys) (i .free) s a b,
       le-leb (inUse (m .at .bridge .sending .queue) + 2) 8 (omega (arith, empty-unused (m .at .bridge .sending .queue) (e .none-used))),
@@ -95,18 +95,18 @@ pub sure-sent : Sure Sent
 unfolding met
 sure-sent m i z =
     let a : sentAll (m .at .bridge .sending) ≡ true
-    = rests (m .at .bridge .sending) (send-rules ours ours-fits (m .at) _ (i .lag) (i .tuned) (i .free)) (left-none _ (i .lag) (length (m .chain)) z) in
+    = rests (m .at .bridge .sending) (send-rules layouts layouts-fit (m .at) _ (i .lag) (i .tuned) (i .free)) (left-none _ (i .lag) (length (m .chain)) z) in
     rw (may-open (m .at) (i .free)) a
 
 -- The bit that goes out, by its definition and by the tick.
-echo-is : (m : Moment) (i : InTune m) → echo ours (m .at) ≡ bitDue ours ours-fits (m .at) (under (m .chain) (m .oldest)) (i .lag) (i .tuned) (i .free)
+echo-is : (m : Moment) (i : InTune m) → echo layouts (m .at) ≡ bitDue layouts layouts-fit (m .at) (under (m .chain) (m .oldest)) (i .lag) (i .tuned) (i .free)
 unfolding echo
-echo-is m i = sout-is ours ours-fits (m .at) (i .tuned .obeys) (i .free) true
+echo-is m i = sout-is layouts layouts-fit (m .at) (i .tuned .obeys) (i .free) true
 
 -- A tick, in tune again, with less to settle.
 record TickedOn (m : Moment) (i : InTune m) : Type 0 where
   again : InTune (ticked m)
-  ticks : Ticking ours (m .at) (back (m .chain) (m .oldest) (echo ours (m .at)))
+  ticks : Ticking layouts (m .at) (back (m .chain) (m .oldest) (echo layouts (m .at)))
   same-delay : length (ticked m .chain) ≡ length (m .chain)
   less : settling (ticked m) again + 1 ≤ settling m i
 
@@ -114,17 +114,17 @@ ticked-on : (m : Moment) (i : InTune m) → 0 < settling m i → TickedOn m i
 unfolding ticked
 ticked-on m i h =
     let chain : List Bool = under (m .chain) (m .oldest) in
-    let b : Bool = bitDue ours ours-fits (m .at) chain (i .lag) (i .tuned) (i .free) in
-    let e : echo ours (m .at) ≡ b = echo-is m i in
-    let f : back (m .chain) (m .oldest) (echo ours (m .at)) ≡ front chain b
-    = under-front (m .chain) (m .oldest) (echo ours (m .at)) ∙ ap (front chain) e in
-    let g : under (filled (m .chain) (m .oldest) (echo ours (m .at))) (onward (m .chain) (m .oldest)) ≡ behind chain b
-    = under-behind (m .chain) (m .oldest) (echo ours (m .at)) ∙ ap (behind chain) e in
+    let b : Bool = bitDue layouts layouts-fit (m .at) chain (i .lag) (i .tuned) (i .free) in
+    let e : echo layouts (m .at) ≡ b = echo-is m i in
+    let f : back (m .chain) (m .oldest) (echo layouts (m .at)) ≡ front chain b
+    = under-front (m .chain) (m .oldest) (echo layouts (m .at)) ∙ ap (front chain) e in
+    let g : under (filled (m .chain) (m .oldest) (echo layouts (m .at))) (onward (m .chain) (m .oldest)) ≡ behind chain b
+    = under-behind (m .chain) (m .oldest) (echo layouts (m .at)) ∙ ap (behind chain) e in
     let n : length chain ≡ length (m .chain) = length-under (m .chain) (m .oldest) in
-    let d : length (filled (m .chain) (m .oldest) (echo ours (m .at))) ≡ length (m .chain)
-    = sym (length-under (filled (m .chain) (m .oldest) (echo ours (m .at))) (onward (m .chain) (m .oldest))) ∙ ap length g ∙ length-behind chain b ∙ n in
-    let t : Ticked ours (m .at) chain b (remaining (m .at .bridge .sending)) (i .lag)
-    = tick-run ours ours-fits (m .at) chain (i .lag) (i .tuned) (i .free) (rw n h) in
+    let d : length (filled (m .chain) (m .oldest) (echo layouts (m .at))) ≡ length (m .chain)
+    = sym (length-under (filled (m .chain) (m .oldest) (echo layouts (m .at))) (onward (m .chain) (m .oldest))) ∙ ap length g ∙ length-behind chain b ∙ n in
+    let t : Ticked layouts (m .at) chain b (remaining (m .at .bridge .sending)) (i .lag)
+    = tick-run layouts layouts-fit (m .at) chain (i .lag) (i .tuned) (i .free) (rw n h) in
     record {
       again = record { lag = t .later; tuned = rw (f, g) (t .tuned); free = rw f (t .ticks .still-open) };
       ticks = rw f (t .ticks);
@@ -138,12 +138,12 @@ pub record Waited (goal : Goal) (w : Waiting) (i : InTune (w .moment)) (v : Wait
   pub there : InTune (v .moment)
   pub same-delay : length (v .moment .chain) ≡ length (w .moment .chain)
   pub cost : settling (v .moment) there + v .ticks ≤ settling (w .moment) i + w .ticks
-  pub end-is : endOf ours (w .moment .at) es ≡ v .moment .at
-  pub premises : Premises ours (w .moment .at) es
-  pub log : (D : List (List ℕ)) → logBy ours (logOf D []) (w .moment .at) es ≡ logOf D []
+  pub end-is : endOf layouts (w .moment .at) es ≡ v .moment .at
+  pub premises : Premises layouts (w .moment .at) es
+  pub log : (D : List (List ℕ)) → logBy layouts (logOf D []) (w .moment .at) es ≡ logOf D []
 
 -- outside of a frame a tick leaves the log
-log-tick : (c : Config) (sin : Bool) (D : List (List ℕ)) → c .bridge .frame .phase ≡ Idle → logged (logOf D []) (planOf ours c (Tick sin)) ≡ logOf D []
+log-tick : (c : Config) (sin : Bool) (D : List (List ℕ)) → c .bridge .frame .phase ≡ Idle → logged (logOf D []) (planOf layouts c (Tick sin)) ≡ logOf D []
 unfolding planOf logged came accepts settle collects joined
 log-tick c sin D e = rw e refl
 
@@ -153,10 +153,10 @@ module _ (goal : Goal) (w : Waiting) (i : InTune (w .moment)) where
   waited-now h = record { is-met = h; there = i; same-delay = refl; cost = omega arith; end-is = refl; premises = tt; log = λ D. refl }
 
   abbrev onwards : Waiting
-  onwards = waiting (ticked (w .moment)) (w .ticks + 1) (echo ours (w .moment .at))
+  onwards = waiting (ticked (w .moment)) (w .ticks + 1) (echo layouts (w .moment .at))
 
   abbrev sin : Bool
-  sin = back (w .moment .chain) (w .moment .oldest) (echo ours (w .moment .at))
+  sin = back (w .moment .chain) (w .moment .oldest) (echo layouts (w .moment .at))
 
   waited-more : (t : TickedOn (w .moment) i) (v : Waiting) (es : List Event) → Waited goal onwards (t .again) v es → Waited goal w i v (Tick sin ∷ es)
   unfolding ticked endOf logBy
@@ -169,7 +169,7 @@ module _ (goal : Goal) (w : Waiting) (i : InTune (w .moment)) where
         end-is = r .end-is;
         premises = (t .ticks .fair, r .premises);
         log = λ D.
-            ap (λ (g : Log). logBy ours g (next ours (w .moment .at) (Tick sin)) es) (log-tick (w .moment .at) sin D (i .free .idle-frame)) ∙ r .log D;
+            ap (λ (g : Log). logBy layouts g (next layouts (w .moment .at) (Tick sin)) es) (log-tick (w .moment .at) sin D (i .free .idle-frame)) ∙ r .log D;
       }
 
   -- by the first test

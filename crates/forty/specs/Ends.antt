@@ -7,7 +7,7 @@ use lib.ListN.{length, replicate}
 use Rattle.line.specs.Format.{Words}
 use Rattle.line.specs.declared.Ear.the-variants.{Quiet}
 use Rattle.state.specs.Sending.{idle}
-use Rattle.command.specs.Layouts.{ours}
+use Rattle.command.specs.Layouts.{layouts}
 use Rattle.line.specs.Reader.{readLine}
 use Rattle.events.specs.declared.Event.{Event}
 use Rattle.bridge.specs.Runs.{Config, soutOf, AllSent}
@@ -66,4 +66,4 @@ pub record AllTaken (board : Board) (delay : ℕ) (ds : List Due) (s : Shifting)
 
 -- the line of a run and then of a shift: what was accepted before, and then each call-up's words and VSYNC, and nothing else
 abbrev pub LineShows : Config → List Event → List Event → List Due → Type 0
-LineShows c before during ds = readLine (soutOf ours c (before ++ during)) .finished ≡ acceptedIn ours c before ++ pairs (wordsOf ds)
+LineShows c before during ds = readLine (soutOf layouts c (before ++ during)) .finished ≡ acceptedIn layouts c before ++ pairs (wordsOf ds)

@@ -7,7 +7,8 @@ use mathlib.Core.List.{List, [], _∷_, _++_}
 use mathlib.Core.Logic.{_≢_}
 use Prim.Native.Nat.{ℕ, _+_, _≤_, _<_}
 use lib.ListN.{length, getD, take}
-use Rattle.command.specs.Layouts.{ours}
+use Rattle.layout.specs.declared.Layout.{Layout}
+use Rattle.command.specs.Layouts.{layouts}
 use Rattle.line.specs.Format.{Words}
 use Rattle.state.specs.declared.Phase.the-variants.{Idle}
 use Rattle.state.specs.Queue.{inUse}
@@ -19,7 +20,7 @@ use Rattle.order.specs.Exactly.{Whole as WholeLine}
 use Rattle.order.specs.Premises.{Premises}
 use Rattle.verdict.specs.Verdicts.{slotCount, lastSlot, callUpMost, isReady, hasRoom, isTaken, isBroken}
 use Rattle.verdict.specs.declared.Verdict.the-variants.{Taken, WrongStores, BrokenRecord, NoSlot, WrongLength, NotReady, NoRoom}
-use Rattle.callup.specs.CallUp.{callUp, pairs}
+use Rattle.callup.specs.CallUp.{callUpTo, pairs}
 use Rattle.callup.specs.Taken.{Takes, AllDone, Same}
 use Rattle.board.specs.Board.{called, verdictOf, callUpOf, slotOf, emptySlot, showing}
 use Rattle.board.specs.declared.Board.{Board}
@@ -32,11 +33,11 @@ use Rattle.forty.specs.Ends.{budgetFor, AllRight, AtRest, wordsOf, board
 
 -- What a call-up that is taken leaves: every note of its two frames is 0; two places and n + 1 words more, and what `Same` names as it was.
 pub record TakenRight (c : Config) (ws : List ℕ) : Type 0 where
-  pub notes : AllDone ours c (callUp ws)
-  pub two-places : inUse (endOf ours c (callUp ws) .bridge .sending .queue) ≡ inUse (c .bridge .sending .queue) + 2
-  pub words-more : endOf ours c (callUp ws) .bridge .sending .tx .count ≡ c .bridge .sending .tx .count + length ws + 1
-  pub no-frame : endOf ours c (callUp ws) .bridge .frame .phase ≡ Idle
-  pub same : Same c (endOf ours c (callUp ws))
+  pub notes : AllDone layouts c (callUpTo c ws)
+  pub two-places : inUse (endOf layouts c (callUpTo c ws) .bridge .sending .queue) ≡ inUse (c .bridge .sending .queue) + 2
+  pub words-more : endOf layouts c (callUpTo c ws) .bridge .sending .tx .count ≡ c .bridge .sending .tx .count + length ws + 1
+  pub no-frame : endOf layouts c (callUpTo c ws) .bridge .frame .phase ≡ Idle
+  pub same : Same c (endOf layouts c (callUpTo c ws))
 
 -- the first refusal that is due, in 02's order; notes 1 and 2 come before
 pub record InOrder (c : Config) (slot n : ℕ) : Type 0 where
@@ -61,8 +62,8 @@ pub record CallUpBoard : Type 0 where
   -- below before it, is taken."
   pub taken-when : (board : Board) (c : Config) (slot reading : ℕ) (ws : List ℕ) → Whole c → slot ≤ lastSlot → Takes c ws
       → callUpOf board c slot reading ws
-      ≡ called (record { board = showing board slot reading ws; bridge = endOf ours c (callUp ws) .bridge; verdict = Taken }) (endOf ours c (callUp ws) .tx)
-      (endOf ours c (callUp ws) .rx)
+      ≡ called (record { board = showing board slot reading ws; bridge = endOf layouts c (callUpTo c ws) .bridge; verdict = Taken }) (endOf layouts c (callUpTo c ws) .tx)
+      (endOf layouts c (callUpTo c ws) .rx)
   pub taken-only : (c : Config) (slot : ℕ) (ws : List ℕ) → Words ws → isTaken (verdictOf c slot (length ws)) ≡ true
       → RightStores (c .tx) (c .rx) × ((sound (c .bridge) ≡ true) × ((slot ≤ lastSlot) × Takes c ws))
   pub taken-right : (c : Config) (ws : List ℕ) → Whole c → Takes c ws → TakenRight c ws
@@ -79,13 +80,13 @@ pub record CallUpBoard : Type 0 where
       → getD (showing board slot reading ws .slots) k emptySlot ≡ getD (board .slots) k emptySlot
   -- FORTY DUE, FORTY SHOWN. Over the run of demand 3 with call-ups among the events, the premises asked of the other events alone: what the line shows is what is
   -- accepted, and each call-up taken stands in it with its VSYNC behind it, in the order taken, every word unchanged.
-  pub forty-shown : (good : Bool) (tx rx : List ℕ) (board : Board) (acts : List Act) → RightStores tx rx
-      → KeptBy (yard board (powerOn good tx rx)) acts → Shown good tx rx board acts
+  pub forty-shown : (good : Bool) (layout : Layout) (tx rx : List ℕ) (board : Board) (acts : List Act) → RightStores tx rx
+      → KeptBy (yard board (powerOn good layout tx rx)) acts → Shown good layout tx rx board acts
   -- A chain gives back the oldest of the bits under way in it, and with none the bit of this tick.
-  pub gives-back : (m : Moment) → underWay m ++ (echo ours (m .at) ∷ []) ≡ sinAt m ∷ underWay (ticked m)
+  pub gives-back : (m : Moment) → underWay m ++ (echo layouts (m .at) ∷ []) ≡ sinAt m ∷ underWay (ticked m)
   -- What a shift tells of itself: these are its events, their ticks are the ticks told, and the count says which call-ups were taken.
   pub shift-given : (board : Board) (m : Moment) (ds : List Due) (budget : ℕ)
-      → endOf ours (m .at) (shiftEvents ds (shifting board m Taken 0 0) budget) ≡ shiftFrom ds (shifting board m Taken 0 0) budget .moment .at
+      → endOf layouts (m .at) (shiftEvents ds (shifting board m Taken 0 0) budget) ≡ shiftFrom ds (shifting board m Taken 0 0) budget .moment .at
   pub shift-ticks : (board : Board) (m : Moment) (ds : List Due) (budget : ℕ)
       → ticksIn (shiftEvents ds (shifting board m Taken 0 0) budget) ≡ shiftFrom ds (shifting board m Taken 0 0) budget .ticks
   pub shift-counted : (board : Board) (m : Moment) (ds : List Due) (budget : ℕ) → Counted board ds budget (shiftFrom ds (shifting board m Taken 0 0) budget)
@@ -98,12 +99,12 @@ pub record CallUpBoard : Type 0 where
   pub shift-ends : (board : Board) (m : Moment) (ds : List Due) (budget : ℕ) → Whole (m .at) → AtRest m → AllRight ds
       → budgetFor (length (m .chain)) ds ≤ budget → AllTaken board (length (m .chain)) ds (shiftOf board m (cellsOf ds) budget)
   -- and after a run of demand 3 this is the line, and each of its bits
-  pub shift-shown : (good : Bool) (tx rx : List ℕ) (before : List Event) (board : Board) (m : Moment) (ds : List Due) (budget : ℕ) → RightStores tx rx
-      → Premises ours (powerOn good tx rx) before → m .at ≡ endOf ours (powerOn good tx rx) before → AtRest m → AllRight ds
+  pub shift-shown : (good : Bool) (layout : Layout) (tx rx : List ℕ) (before : List Event) (board : Board) (m : Moment) (ds : List Due) (budget : ℕ) → RightStores tx rx
+      → Premises layouts (powerOn good layout tx rx) before → m .at ≡ endOf layouts (powerOn good layout tx rx) before → AtRest m → AllRight ds
       → budgetFor (length (m .chain)) ds ≤ budget
-      → LineShows (powerOn good tx rx) before (shiftEvents ds (shifting board m Taken 0 0) budget) ds
-  pub shift-exact : (good : Bool) (tx rx : List ℕ) (before : List Event) (board : Board) (m : Moment) (ds : List Due) (budget : ℕ) → RightStores tx rx
-      → Premises ours (powerOn good tx rx) before → m .at ≡ endOf ours (powerOn good tx rx) before → AtRest m → AllRight ds
+      → LineShows (powerOn good layout tx rx) before (shiftEvents ds (shifting board m Taken 0 0) budget) ds
+  pub shift-exact : (good : Bool) (layout : Layout) (tx rx : List ℕ) (before : List Event) (board : Board) (m : Moment) (ds : List Due) (budget : ℕ) → RightStores tx rx
+      → Premises layouts (powerOn good layout tx rx) before → m .at ≡ endOf layouts (powerOn good layout tx rx) before → AtRest m → AllRight ds
       → budgetFor (length (m .chain)) ds ≤ budget
-      → WholeLine (soutOf ours (powerOn good tx rx) (before ++ shiftEvents ds (shifting board m Taken 0 0) budget))
-      (acceptedIn ours (powerOn good tx rx) before ++ pairs (wordsOf ds))
+      → WholeLine (soutOf layouts (powerOn good layout tx rx) (before ++ shiftEvents ds (shifting board m Taken 0 0) budget))
+      (acceptedIn layouts (powerOn good layout tx rx) before ++ pairs (wordsOf ds))

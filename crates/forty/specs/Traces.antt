@@ -4,14 +4,14 @@ use mathlib.Core.List.{List, [], _∷_, _++_}
 use Prim.Native.Nat.{ℕ, zero, suc, _-_, _%_}
 use lib.ListN.{length, take, drop}
 use Rattle.base.specs.Pick.{pick}
-use Rattle.command.specs.Layouts.{ours}
+use Rattle.command.specs.Layouts.{layouts}
 use Rattle.events.specs.declared.Event.{Event}
 use Rattle.events.specs.declared.Event.the-variants.{Tick}
 use Rattle.verdict.specs.Verdicts.{isTaken}
-use Rattle.callup.specs.CallUp.{callUp}
+use Rattle.callup.specs.CallUp.{callUpTo}
 use Rattle.chain.specs.Echo.{echo}
 use Rattle.chain.specs.Chain.{Moment, back, ticked}
-use Rattle.chain.specs.Waits.{met}
+use Rattle.chain.specs.Waits.{met, waitFrom}
 use Rattle.chain.specs.declared.Goal.{Goal}
 use Rattle.chain.specs.declared.Goal.the-variants.{Room, Sent}
 use Rattle.shift.specs.Shifts.{Due, Shifting, takenAfter, nextOffer}
@@ -26,7 +26,7 @@ underWay m = under (m .chain) (m .oldest)
 
 -- the bit that the next tick reads
 abbrev pub sinAt : Moment → Bool
-sinAt m = back (m .chain) (m .oldest) (echo ours (m .at))
+sinAt m = back (m .chain) (m .oldest) (echo layouts (m .at))
 
 -- the ticks of a wait, each with the bit that comes back
 unfoldable pub waitEvents : ℕ → Goal → Moment → List Event
@@ -34,11 +34,12 @@ waitEvents zero goal m = []
 waitEvents (suc budget) goal m =
     pick (met goal (m .at)) [] (Tick (sinAt m) ∷ waitEvents budget goal (ticked m))
 
--- and the call-up where it is taken
+-- and the call-up where it is taken, for the bridge as the wait leaves it
 unfoldable pub offerEvents : Due → Shifting → ℕ → List Event
 offerEvents d s budget =
     waitEvents (budget - s .ticks) (Room (d .slot) (length (d .words))) (s .moment)
-    ++ pick (isTaken (nextOffer d s budget .verdict)) (callUp (d .words)) []
+    ++ pick (isTaken (nextOffer d s budget .verdict))
+    (callUpTo (waitFrom (budget - s .ticks) (Room (d .slot) (length (d .words))) (s .moment) .moment .at) (d .words)) []
 
 unfoldable pub shiftEvents : List Due → Shifting → ℕ → List Event
 shiftEvents [] s budget = waitEvents (budget - s .ticks) Sent (s .moment)

@@ -1,8 +1,10 @@
--- The record rules of registers, flags and frame (01 Notes, note 2; 02 item 4). docs/RECORD-RULES.md says what each is for. Assumes nothing.
-use mathlib.Core.Bool.{Bool, false, not, _&&_, _||_}
+-- The record rules of registers, flags and frame (01 Notes, note 2; 02 items 4 and 7). docs/RECORD-RULES.md says what each is for. Assumes nothing.
+use mathlib.Core.Bool.{Bool, true, false, not, _&&_, _||_}
 use Prim.Native.Nat.{ℕ}
 use lib.Dec.{ltb, eqb}
 use Rattle.base.specs.Pick.{pick}
+use Rattle.layout.specs.declared.Layout.{Layout}
+use Rattle.layout.specs.declared.Layout.the-variants.{Ours, Makers}
 use Rattle.registers.specs.Registers.{regsSound, blocking}
 use Rattle.registers.specs.declared.Control.{Control}
 use Rattle.registers.specs.declared.Flags.{Flags}
@@ -29,6 +31,11 @@ badWordSound f = f .«check_bit» || eqb (f .«bad_word») 0
 abbrev pub controlSound : Control → ℕ → Bool
 controlSound c count =
     regsSound (c .regs) && otpSound (c .mode) (c .flags .otp) && drdySound (c .drdy) (c .regs .rxfflvl) count && badWordSound (c .flags)
+
+-- a frame's algorithm is one of its layout's: "CRC (ours)" of 01 is one, the maker's are two (001 7.5.3). 02 item 7
+abbrev pub algorithmSound : Layout → Bool → Bool
+algorithmSound Ours xmodem = not xmodem
+algorithmSound Makers xmodem = true
 
 -- an open forward that is not marked as blocked
 unfoldable pub isUnmarked : Phase → Bool

@@ -3,10 +3,11 @@ ghost use mathlib.Core.Path.{_≡_};
 ghost use mathlib.Core.Bool.{_||_};
 ghost use Prim.Native.Nat.{_+_};
 ghost use lib.Dec.{leb};
-ghost use Rattle.frame_rules.specs.Frames.{otpSound, drdySound, badWordSound, controlSound, isUnmarked, flagsSound};
+ghost use Rattle.frame_rules.specs.Frames.{otpSound, drdySound, badWordSound, controlSound, algorithmSound, isUnmarked, flagsSound};
 ghost use Rattle.base.specs.Pick.{pick};
 ghost use Rattle.state.specs.Frame.{mineOf, owedBy, toCome, forwardSound, collectSound, replySound, phaseSound};
 use command::Command;
+use layout::Layout;
 use registers::Control;
 use registers::Flags;
 use registers::Mode;
@@ -50,6 +51,16 @@ pub fn control_sound(control: Control, count: u16) -> bool
     let drdy = drdy_sound(control.drdy, control.regs.rxfflvl, count);
     let word = bad_word_sound(control.flags);
     regs & otp & drdy & word
+}
+
+// Our layout has one CRC (02 item 7).
+pub fn algorithm_sound(layout: Layout, xmodem: bool) -> bool
+    ensures { λ r. ⌜ r ≡ algorithmSound layout xmodem ⌝ }
+{
+    match layout {
+        Layout::Ours => !xmodem,
+        Layout::Makers => true,
+    }
 }
 
 // The data words of a forward that its frame has in TX.

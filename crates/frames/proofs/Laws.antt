@@ -1,7 +1,7 @@
 -- Laws of the rows' limits, as the functions test them. Assumes nothing.
 use mathlib.Core.Path.{_≡_, refl, sym, _∙_, ap}
 use mathlib.Core.Bool.{Bool, true, false, _&&_}
-use Prim.Native.Nat.{ℕ, zero, suc, _+_, _-_, _≤_, _<_}
+use Prim.Native.Nat.{ℕ, zero, suc, _+_, _-_, _*_, _≤_, _<_}
 use native.Mathlib.Omega.{arith}
 use native.Mathlib.Decide.{decLe}
 use lib.Dec.{leb}
@@ -10,11 +10,13 @@ use borrow.Author.Tests.{lt-ltb, le-ltb, le-leb, lt-leb, eq-eqb, ne-eqb}
 use Rattle.base.specs.Arms.{past}
 use Rattle.base.specs.Pick.{pick, pick-true, pick-false, and-both}
 use Rattle.base.specs.Truth.{and-none}
+use Rattle.layout.specs.declared.Layout.{Layout}
 use Rattle.frames.specs.Answers.{answerOf, dueOf}
-use Rattle.frames.specs.Orders.{spans, fieldsWithin, headOf, rows, orderOf}
+use Rattle.frames.specs.Orders.{spans, fieldsWithin, endsBits, spanBits, fixedBits, headOf, rows, orderOf}
 use Rattle.frames.specs.declared.Due.{Due}
 use Rattle.frames.specs.declared.Due.the-variants.{Nothing}
 use Rattle.frames.specs.declared.Head.{Head}
+use Rattle.frames.specs.declared.Head.the-variants.{Outside, Word}
 use Rattle.frames.specs.declared.Order.{Order}
 use Rattle.frames.specs.declared.Named.{Named}
 use Rattle.frames.specs.declared.Named.the-variants.{Unknown}
@@ -52,10 +54,25 @@ pub ruleset spanned = (spans-past, spans-none, spans-over, spans-fits, spans-by)
 
 pub ruleset tests = (pick-true, pick-false, and-both, and-none, and-first-fails, lt-ltb, le-ltb, le-leb, lt-leb, eq-eqb, ne-eqb)
 
+-- an arm knows its layout
+module _ (k n : Layout) (x : ℕ) (e : k ≡ n) where
+  pub to-ends-bits : (ends words : ℕ) → x ≡ endsBits n ends words → x ≡ endsBits k ends words
+  to-ends-bits ends words f = f ∙ ap (λ (l : Layout). endsBits l ends words) (sym e)
+
+  pub to-span-bits : (address count : ℕ) → x ≡ spanBits n address count → x ≡ spanBits k address count
+  to-span-bits address count f = f ∙ ap (λ (l : Layout). spanBits l address count) (sym e)
+
+  pub to-reset : (t : Bool) → t ≡ true → x ≡ 14 * 4096 + fixedBits n → Word x ≡ pick t (Word (14 * 4096 + fixedBits k)) Outside
+  to-reset t h f = pick-true t _ _ _ h (ap (λ (w : ℕ). Word w) (f ∙ ap (λ (l : Layout). 14 * 4096 + fixedBits l) (sym e)))
+
+-- a command word by its low bits
+pub to-word : (t : Bool) (number low is : ℕ) → t ≡ true → low ≡ is → Word (number * 4096 + low) ≡ pick t (Word (number * 4096 + is)) Outside
+to-word t number low is h e = pick-true t _ _ _ h (ap (λ (l : ℕ). Word (number * 4096 + l)) e)
+
 -- an arm knows its order
 module _ (o k : Order) where
-  pub to-head : (n : ℕ) (x : Head) → o ≡ k → x ≡ headOf k n → x ≡ headOf o n
-  to-head n x e f = f ∙ ap (λ (m : Order). headOf m n) (sym e)
+  pub to-head : (l : Layout) (n : ℕ) (x : Head) → o ≡ k → x ≡ headOf l k n → x ≡ headOf l o n
+  to-head l n x e f = f ∙ ap (λ (m : Order). headOf l m n) (sym e)
 
   pub to-due : (x : Due) → o ≡ k → fieldsWithin k ≡ true → x ≡ answerOf k → x ≡ dueOf o
   unfolding dueOf

@@ -11,7 +11,8 @@ use lib.Seq.{drop-set-lt, set-at, take-suc, drop-cons, drop-length, take-length,
 use borrow.Author.Tests.{le-leb, lt-leb, ne-eqb}
 use Rattle.base.specs.Pick.{pick, pick-true, pick-false}
 use Rattle.base.specs.Truth.{and-none}
-use Rattle.crc16.specs.Crc.{start, crcWord, crcFrom, crcOf}
+use Rattle.layout.specs.declared.Layout.{Layout}
+use Rattle.crc16.specs.Crc.{crcWord, crcFrom}
 use Rattle.frames.specs.Frames.{checked, over, out, writtenOf}
 use Rattle.frames.specs.Orders.{within, commandWord, headOf}
 use Rattle.frames.specs.declared.Head.{Head}
@@ -21,12 +22,12 @@ use Rattle.frames.specs.declared.Order.the-variants.{FwdWrCrc, FwdWr, Fw
 use Rattle.frames.specs.declared.Written.the-variants.{Frame, OutsideLimits, BufferShort}
 
 -- so many data words stand behind the command word; the CRC has them, and the rest brings it to the whole frame's
-pub record Filled (word : ℕ) (words cells : List ℕ) (i : ℕ) (buffer : List ℕ) (crc : ℕ) : Type 0 where
+pub record Filled (start word : ℕ) (words cells : List ℕ) (i : ℕ) (buffer : List ℕ) (crc : ℕ) : Type 0 where
   pub bound : i ≤ length words
   pub room : length words + 2 ≤ length cells
   pub cells-are : buffer ≡ (word ∷ take i words) ++ drop (suc i) cells
   pub same : length buffer ≡ length cells
-  pub rest : crcFrom crc (drop i words) ≡ crcOf (word ∷ words)
+  pub rest : crcFrom crc (drop i words) ≡ crcFrom start (word ∷ words)
 
 -- the cell behind a front of a buffer
 set-behind : (front cells : List ℕ) (n w : ℕ) → length front ≡ n → n < length cells
@@ -36,11 +37,11 @@ set-behind front cells n w e h =
     ∙ set-at front (getD cells n 0) (drop (suc n) cells) w n e
     ∙ sym (append-assoc front (w ∷ []) (drop (suc n) cells))
 
-module _ (word : ℕ) (words cells : List ℕ) where
+module _ (start word : ℕ) (words cells : List ℕ) where
   -- the loop begins with the command word written
   pub fill-begins : (crc : ℕ) → length words + 2 ≤ length cells → crc ≡ crcWord start word
-      → Filled word words (set cells 0 word) 0 (set cells 0 word) crc
-  unfolding crcOf crcFrom
+      → Filled start word words (set cells 0 word) 0 (set cells 0 word) crc
+  unfolding crcFrom
   fill-begins crc h e =
       let l = length-set cells 0 word in
       record {
@@ -57,8 +58,8 @@ module _ (word : ℕ) (words cells : List ℕ) where
     front-length : i ≤ length words → length (word ∷ take i words) ≡ suc i
     front-length h = let l : length (take i words) ≡ i = length-take-le i words h in omega (arith, l)
 
-    pub fill-again : Filled word words cells i buffer crc → (r : ℕ) → i < length words → r ≡ crcWord crc (getD words i 0)
-        → Filled word words cells (i + 1) (set buffer (i + 1) (getD words i 0)) r
+    pub fill-again : Filled start word words cells i buffer crc → (r : ℕ) → i < length words → r ≡ crcWord crc (getD words i 0)
+        → Filled start word words cells (i + 1) (set buffer (i + 1) (getD words i 0)) r
     unfolding crcFrom
     fill-again v r h e =
         let w : ℕ = getD words i 0 in
@@ -76,24 +77,24 @@ module _ (word : ℕ) (words cells : List ℕ) where
           rest = rw (e, s) (rw (drop-cons words i 0 h) at (v .rest));
         }
 
-    pub fill-ends : Filled word words (set cells 0 word) i buffer crc → length words ≤ i
-        → set buffer (i + 1) crc ≡ over (checked (word ∷ words)) cells
+    pub fill-ends : Filled start word words (set cells 0 word) i buffer crc → length words ≤ i
+        → set buffer (i + 1) crc ≡ over (checked start (word ∷ words)) cells
     unfolding crcFrom
     fill-ends v h =
         let begun : List ℕ = set cells 0 word in
         let z : i ≡ length words = omega (arith, v .bound) in
         let room : length words + 2 ≤ length begun = v .room in
         let s : i + 1 ≡ suc i = add-one i in
-        let c : crc ≡ crcOf (word ∷ words) = rw (z, drop-length) at (v .rest) in
+        let c : crc ≡ crcFrom start (word ∷ words) = rw (z, drop-length) at (v .rest) in
         let t : take i words ≡ words = ap (λ (k : ℕ). take k words) z ∙ take-length words in
-        let n : suc (suc i) ≡ length (checked (word ∷ words)) = omega (arith, z, length-append (word ∷ words) (crcOf (word ∷ words) ∷ [])) in
+        let n : suc (suc i) ≡ length (checked start (word ∷ words)) = omega (arith, z, length-append (word ∷ words) (crcFrom start (word ∷ words) ∷ [])) in
         ap₂ (λ (b : List ℕ) (k : ℕ). set b k crc) (v .cells-are) s
         ∙ set-behind (word ∷ take i words) begun (suc i) crc (front-length (v .bound)) (omega arith)
         ∙ ap₂ (λ (x : List ℕ) (d : ℕ). ((word ∷ x) ++ (d ∷ [])) ++ drop (suc (suc i)) begun) t c
-        ∙ ap (λ (k : ℕ). checked (word ∷ words) ++ drop k begun) n
-        ∙ ap (λ (x : List ℕ). checked (word ∷ words) ++ x) (drop-set-lt (length (checked (word ∷ words))) cells 0 word (omega (arith, n)))
+        ∙ ap (λ (k : ℕ). checked start (word ∷ words) ++ drop k begun) n
+        ∙ ap (λ (x : List ℕ). checked start (word ∷ words) ++ x) (drop-set-lt (length (checked start (word ∷ words))) cells 0 word (omega (arith, n)))
 
-    pub fill-same : Filled word words (set cells 0 word) i buffer crc → (w : ℕ) → length (set buffer (i + 1) w) ≡ length cells
+    pub fill-same : Filled start word words (set cells 0 word) i buffer crc → (w : ℕ) → length (set buffer (i + 1) w) ≡ length cells
     fill-same v w = length-set buffer (i + 1) w ∙ v .same ∙ length-set cells 0 word
 
 -- no order takes more than 4,096 data words
@@ -127,31 +128,31 @@ head-some true v w e = (refl, ap (λ (h : Head). wordOf h) e)
     wordOf (Word x) = x
 head-some false v w e = (cc, cc)
 
-module _ (o : Order) (words buffer : List ℕ) where
-  pub writes-too-many : 4096 < length words → out OutsideLimits buffer ≡ writtenOf o words buffer
+module _ (k : Layout) (s : ℕ) (o : Order) (words buffer : List ℕ) where
+  pub writes-too-many : 4096 < length words → out OutsideLimits buffer ≡ writtenOf k s o words buffer
   unfolding writtenOf
   writes-too-many h = pick-false _ _ _ _ (too-many o (length words) h) refl
 
-  module _ (r : Head) (is : r ≡ headOf o (length words)) where
-    pub writes-outside : r ≡ Outside → out OutsideLimits buffer ≡ writtenOf o words buffer
+  module _ (r : Head) (is : r ≡ headOf k o (length words)) where
+    pub writes-outside : r ≡ Outside → out OutsideLimits buffer ≡ writtenOf k s o words buffer
     unfolding writtenOf headOf
     writes-outside e = pick-false _ _ _ _ (head-none _ _ (sym e ∙ is)) refl
 
     module _ (w : ℕ) (e : r ≡ Word w) where
-      some : (within o (length words) ≡ true) × (w ≡ commandWord o (length words))
+      some : (within o (length words) ≡ true) × (w ≡ commandWord k o (length words))
       unfolding headOf
       some = head-some _ w _ (sym e ∙ is)
 
-      pub writes-short : length buffer < length words + 2 → out BufferShort buffer ≡ writtenOf o words buffer
+      pub writes-short : length buffer < length words + 2 → out BufferShort buffer ≡ writtenOf k s o words buffer
       unfolding writtenOf
       writes-short h = pick-true _ _ _ _ (some .0) (pick-false _ _ _ _ (lt-leb _ _ h) refl)
 
-      pub writes-frame : (left : List ℕ) → length words + 2 ≤ length buffer → left ≡ over (checked (w ∷ words)) buffer
-          → out (Frame (length words + 2)) left ≡ writtenOf o words buffer
+      pub writes-frame : (left : List ℕ) → length words + 2 ≤ length buffer → left ≡ over (checked s (w ∷ words)) buffer
+          → out (Frame (length words + 2)) left ≡ writtenOf k s o words buffer
       unfolding writtenOf
       writes-frame left h f =
           pick-true _ _ _ _ (some .0)
           (pick-true _ _ _ _ (le-leb _ _ h)
-          (ap (λ (x : List ℕ). out (Frame (length words + 2)) x) (f ∙ ap (λ (x : ℕ). over (checked (x ∷ words)) buffer) (some .1))))
+          (ap (λ (x : List ℕ). out (Frame (length words + 2)) x) (f ∙ ap (λ (x : ℕ). over (checked s (x ∷ words)) buffer) (some .1))))
 
 pub ruleset writes = (writes-too-many, writes-outside, writes-short, writes-frame)

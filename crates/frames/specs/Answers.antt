@@ -6,7 +6,7 @@ use Prim.Native.Nat.{ℕ, _+_}
 use lib.Dec.{eqb}
 use lib.ListN.{length, getD, take}
 use Rattle.base.specs.Pick.{pick}
-use Rattle.crc16.specs.Crc.{crcOf}
+use Rattle.crc16.specs.Crc.{crcFrom}
 use Rattle.frames.specs.Orders.{fieldsWithin}
 use Rattle.frames.specs.declared.Order.{Order}
 use Rattle.frames.specs.declared.Order.the-variants.{FwdWrCrc, FwdWr, FwdWrEndCrc, FwdWrEnd, FwdRdEndCrc, FwdRdEnd, DataRdCrc, DataRd, RegWrCrc, RegWr, RegRdCrc, RegRd, SoftResetCrc}
@@ -35,18 +35,18 @@ answerOf SoftResetCrc = StatusDue
 unfoldable pub dueOf : Order → Due
 dueOf o = pick (fieldsWithin o) (answerOf o) Nothing
 
--- n words, and then their CRC
-unfoldable pub isAnswer : ℕ → List ℕ → Bool
-isAnswer n words = eqb (length words) (n + 1) && eqb (getD words n 0) (crcOf (take n words))
+-- n words, and then their CRC, which starts at s
+unfoldable pub isAnswer : ℕ → ℕ → List ℕ → Bool
+isAnswer s n words = eqb (length words) (n + 1) && eqb (getD words n 0) (crcFrom s (take n words))
 
-unfoldable pub toldBy : Due → List ℕ → Told
-toldBy Nothing words = Refused
-toldBy StatusDue words = pick (isAnswer 1 words) (Status (getD words 0 0)) Refused
-toldBy (DataDue count) words = pick (isAnswer count words) (Data count) Refused
+unfoldable pub toldBy : ℕ → Due → List ℕ → Told
+toldBy s Nothing words = Refused
+toldBy s StatusDue words = pick (isAnswer s 1 words) (Status (getD words 0 0)) Refused
+toldBy s (DataDue count) words = pick (isAnswer s count words) (Data count) Refused
 
--- "20 .. an answer of wrong length or CRC"
-unfoldable pub toldOf : Order → List ℕ → Told
-toldOf o words = toldBy (dueOf o) words
+-- "20 .. an answer of wrong length or CRC", by the CRC of its frame (02 item 7)
+unfoldable pub toldOf : ℕ → Order → List ℕ → Told
+toldOf s o words = toldBy s (dueOf o) words
 
 -- the refusal by 02's number; 0 is none
 abbrev pub answerRefusal : Told → ℕ

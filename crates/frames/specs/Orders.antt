@@ -1,12 +1,14 @@
--- What a host can order and its command word (02 item 1; 01 Frames, "Layout (ours), command number in bits 15..12"): the rows of 01's table, read
--- from the host's side. Assumes nothing.
+-- What a host can order and its command word (02 item 1; 01 Frames, "Layout (ours), command number in bits 15..12"; 02 item 7): the rows of 01's
+-- table, and of the maker's, read from the host's side. Assumes nothing.
 use mathlib.Core.Bool.{Bool, true, false, _&&_}
 use mathlib.Core.List.{List, [], _∷_}
 use Prim.Native.Nat.{ℕ, _+_, _-_, _*_}
 use lib.Dec.{ltb, leb, eqb}
 use lib.ListN.{getD}
 use Rattle.base.specs.Pick.{pick}
-use Rattle.command.specs.Layout.{mostChecked, mostWords, mostEnds, mostRead, registersEnd}
+use Rattle.layout.specs.declared.Layout.{Layout}
+use Rattle.layout.specs.declared.Layout.the-variants.{Ours, Makers}
+use Rattle.command.specs.Layout.{mostChecked, mostWords, mostEnds, mostRead, registersEnd, resetBits}
 use Rattle.command.specs.declared.Command.{Command}
 use Rattle.command.specs.declared.Command.the-variants.{Forward, DataRead, RegisterWrite, RegisterRead, SoftReset}
 use Rattle.frames.specs.declared.Order.{Order}
@@ -79,24 +81,42 @@ wordsWithin SoftResetCrc n = eqb n 0
 abbrev pub within : Order → ℕ → Bool
 within o n = fieldsWithin o && wordsWithin o n
 
--- "Low 12 bits", with n data words
-abbrev pub lowBits : Order → ℕ → ℕ
-lowBits FwdWrCrc n = n - 1
-lowBits FwdWr n = n - 1
-lowBits (FwdWrEndCrc ends) n = ends * 32 + n
-lowBits (FwdWrEnd ends) n = ends * 32 + n
-lowBits (FwdRdEndCrc ends) n = ends * 32 + (n - 1)
-lowBits (FwdRdEnd ends) n = ends * 32 + (n - 1)
-lowBits (DataRdCrc count) n = count - 1
-lowBits (DataRd count) n = count - 1
-lowBits (RegWrCrc address) n = (n - 1) * 256 + address
-lowBits (RegWr address) n = (n - 1) * 256 + address
-lowBits (RegRdCrc address count) n = (count - 1) * 256 + address
-lowBits (RegRd address count) n = (count - 1) * 256 + address
-lowBits SoftResetCrc n = 0
+-- The fields of the low twelve bits, put where a layout has them.
 
-abbrev pub commandWord : Order → ℕ → ℕ
-commandWord o n = numberOf o * 4096 + lowBits o n
+-- 4 to 7. Ours: "bits 4..0 words .., bits 11..5 extra ENDs" (01 Frames). The maker's: data_length 11..7, extra_end_bytes 6..0 (001 table 7-2)
+abbrev pub endsBits : Layout → ℕ → ℕ → ℕ
+endsBits Ours ends words = ends * 32 + words
+endsBits Makers ends words = words * 128 + ends
+
+-- 10 to 13. Ours: "bits 11..8 count minus 1; .. bits 3..0 address" (01 Frames). The maker's: address 9..6, data_length 3..0 (001 table 7-2)
+abbrev pub spanBits : Layout → ℕ → ℕ → ℕ
+spanBits Ours address count = (count - 1) * 256 + address
+spanBits Makers address count = address * 64 + (count - 1)
+
+-- 14. Ours: "0" (01 Frames). The maker's: 0x1E1 (001 table 7-2)
+abbrev pub fixedBits : Layout → ℕ
+fixedBits Ours = 0
+fixedBits Makers = resetBits
+
+-- "Low 12 bits", with n data words (01 Frames; 001 table 7-2; 02 item 7)
+abbrev pub lowBits : Layout → Order → ℕ → ℕ
+lowBits k FwdWrCrc n = n - 1
+lowBits k FwdWr n = n - 1
+lowBits k (FwdWrEndCrc ends) n = endsBits k ends n
+lowBits k (FwdWrEnd ends) n = endsBits k ends n
+lowBits k (FwdRdEndCrc ends) n = endsBits k ends (n - 1)
+lowBits k (FwdRdEnd ends) n = endsBits k ends (n - 1)
+lowBits k (DataRdCrc count) n = count - 1
+lowBits k (DataRd count) n = count - 1
+lowBits k (RegWrCrc address) n = spanBits k address n
+lowBits k (RegWr address) n = spanBits k address n
+lowBits k (RegRdCrc address count) n = spanBits k address count
+lowBits k (RegRd address count) n = spanBits k address count
+lowBits k SoftResetCrc n = fixedBits k
+
+-- "command number in bits 15..12" (01 Frames); CMD[15:12] (001 table 7-2)
+abbrev pub commandWord : Layout → Order → ℕ → ℕ
+commandWord k o n = numberOf o * 4096 + lowBits k o n
 
 -- the command that the bridge is to find (`command`'s own type)
 abbrev pub meant : Order → ℕ → Command
@@ -115,8 +135,8 @@ meant (RegRd address count) n = RegisterRead false address count
 meant SoftResetCrc n = SoftReset
 
 -- the command word, where the order is within its limits
-unfoldable pub headOf : Order → ℕ → Head
-headOf o n = pick (within o n) (Word (commandWord o n)) Outside
+unfoldable pub headOf : Layout → Order → ℕ → Head
+headOf k o n = pick (within o n) (Word (commandWord k o n)) Outside
 
 -- An order as four numbers: that of its command, extra ENDs, address, count. A field that the row does not have is 0, so that one order is one row of
 -- numbers (ours: a number that would be ignored is a mistake, and is told).

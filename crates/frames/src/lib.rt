@@ -1,14 +1,16 @@
 // The host's side of a frame (02, item 1): an order becomes the words to send, and the words that came back become STATUS or data. It knows the
-// command words and the CRC, and nothing of the bridge.
+// command words of either layout and the CRC (02, item 7), and nothing of the bridge.
 ghost use mathlib.Core.Path.{_≡_};
 ghost use mathlib.Core.List.{_∷_};
 ghost use Prim.Native.Nat.{_+_, _≤_};
 ghost use lib.ListN.{length};
+ghost use Rattle.crc16.specs.Crc.{crcFrom};
 ghost use Rattle.frames.specs.Answers.{isAnswer, toldOf, answerRefusal};
 ghost use Rattle.frames.specs.Frames.{beside, checked, over, out, writtenOf, writtenRefusal};
 
 mod rows;
 
+use layout::Layout;
 pub use rows::order_of;
 
 // A command of 01's table, by the name that stands there, with the fields of its row that its data words do not give.
@@ -62,12 +64,12 @@ pub enum Told {
 }
 
 // A frame's words at the front of a buffer that has room for them.
-fn fill(word: u16, words: &[u16], buffer: &mut [u16])
+fn fill(start: u16, word: u16, words: &[u16], buffer: &mut [u16])
     requires { ⌜ length (now words) + beside ≤ length (now buffer) ⌝ }
-    ensures { λ r. ⌜ now (buffer .exit) ≡ over (checked (word ∷ now (words .entry))) (now (buffer .entry)) ⌝ }
+    ensures { λ r. ⌜ now (buffer .exit) ≡ over (checked start (word ∷ now (words .entry))) (now (buffer .entry)) ⌝ }
 {
     buffer[0] = word;
-    let mut crc = crc16::crc_word(crc16::START, word);
+    let mut crc = crc16::crc_word(start, word);
     let mut i: usize = 0;
     while i < words.len() {
         buffer[i + 1] = words[i];
@@ -77,51 +79,65 @@ fn fill(word: u16, words: &[u16], buffer: &mut [u16])
     buffer[i + 1] = crc;
 }
 
-// The frame of an order with these data words, into a lent buffer. 4,096 words are more than any other order takes.
-pub fn write(order: Order, words: &[u16], buffer: &mut [u16]) -> Written
-    ensures { λ r. ⌜ out r (now (buffer .exit)) ≡ writtenOf order (now (words .entry)) (now (buffer .entry)) ⌝ }
+// The frame of an order with these data words, into a lent buffer. `start` is the CRC's (`command::crc_start`). 4,096 words are more than any other
+// order takes.
+pub fn write(layout: Layout, start: u16, order: Order, words: &[u16], buffer: &mut [u16]) -> Written
+    ensures { λ r. ⌜ out r (now (buffer .exit)) ≡ writtenOf layout start order (now (words .entry)) (now (buffer .entry)) ⌝ }
 {
     let count = words.len();
     if 4096 < count {
         return Written::OutsideLimits;
     }
-    match rows::head(order, count as u16) {
+    match rows::head(layout, order, count as u16) {
         Head::Outside => Written::OutsideLimits,
         Head::Word(word) => {
             if buffer.len() < count + 2 {
                 return Written::BufferShort;
             }
-            fill(word, words, buffer);
+            fill(start, word, words, buffer);
             Written::Frame(count as u16 + 2)
         }
     }
 }
 
+// The CRC of a list of words, from a start of the caller's: `crc16::crc_list` has 01's.
+fn crc_from(start: u16, words: &[u16]) -> u16
+    ensures { λ r. ⌜ r ≡ crcFrom start (now (words .entry)) ⌝ }
+{
+    let mut sum = start;
+    let mut i: usize = 0;
+    while i < words.len() {
+        sum = crc16::crc_word(sum, words[i]);
+        i = i + 1;
+    }
+    sum
+}
+
 // So many words and then their CRC.
-fn is_answer(count: u16, answer: &[u16]) -> bool
-    ensures { λ r. ⌜ r ≡ isAnswer count (now (answer .entry)) ⌝ }
+fn is_answer(start: u16, count: u16, answer: &[u16]) -> bool
+    ensures { λ r. ⌜ r ≡ isAnswer start count (now (answer .entry)) ⌝ }
 {
     let n = count as usize;
     if answer.len() != n + 1 {
         return false;
     }
-    answer[n] == crc16::crc_list(&answer[..n])
+    answer[n] == crc_from(start, &answer[..n])
 }
 
-// What the words say that came back for an order. The data stay where they are: the first so many words.
-pub fn read_answer(order: Order, answer: &[u16]) -> Told
-    ensures { λ r. ⌜ r ≡ toldOf order (now (answer .entry)) ⌝ }
+// What the words say that came back for an order, whose frame's CRC began at `start`. The data stay where they are: the first so many words.
+pub fn read_answer(start: u16, order: Order, answer: &[u16]) -> Told
+    ensures { λ r. ⌜ r ≡ toldOf start order (now (answer .entry)) ⌝ }
 {
     match rows::due(order) {
         Due::Nothing => Told::Refused,
         Due::StatusDue => {
-            if is_answer(1, answer) {
+            if is_answer(start, 1, answer) {
                 return Told::Status(answer[0]);
             }
             Told::Refused
         }
         Due::DataDue(count) => {
-            if is_answer(count, answer) {
+            if is_answer(start, count, answer) {
                 return Told::Data(count);
             }
             Told::Refused

@@ -1,16 +1,44 @@
-// The rows of 01's table from the host's side (01 Frames, "Layout (ours)"): their limits, command words and answers.
+// The rows of 01's table from the host's side (01 Frames, "Layout (ours)"): their limits, command words and answers. The maker's table has the same
+// rows with the fields elsewhere (001 table 7-2; 02 item 7).
 ghost use mathlib.Core.Path.{_≡_};
 ghost use mathlib.Core.Bool.{_&&_};
-ghost use Prim.Native.Nat.{_+_, _-_, _*_, _≤_};
+ghost use Prim.Native.Nat.{_+_, _-_, _*_, _≤_, _<_};
 ghost use lib.Dec.{ltb, leb, eqb};
 ghost use Rattle.base.specs.Pick.{pick};
 ghost use Rattle.frames.specs.Answers.{dueOf};
 ghost use Rattle.command.specs.Layout.{mostEnds, mostRead, registersEnd};
-ghost use Rattle.frames.specs.Orders.{mostBesideEnds, mostReadBack, spans as spansOf, headOf, known as knownOf, orderOf};
+ghost use Rattle.frames.specs.Orders.{mostBesideEnds, mostReadBack, spans as spansOf, endsBits, spanBits, fixedBits, headOf, known as knownOf, orderOf};
 use crate::Due;
 use crate::Head;
 use crate::Named;
 use crate::Order;
+use layout::Layout;
+
+// The low bits of numbers 4 to 7.
+fn ends_bits(layout: Layout, ends: u16, words: u16) -> u16
+    requires { ⌜ ends ≤ 127 ⌝ }
+    requires { ⌜ words ≤ 31 ⌝ }
+    ensures { λ r. ⌜ r ≡ endsBits layout ends words ⌝ }
+    ensures { λ r. ⌜ r < 4096 ⌝ }
+{
+    match layout {
+        Layout::Ours => ends * 32 + words,
+        Layout::Makers => words * 128 + ends,
+    }
+}
+
+// The low bits of numbers 10 to 13.
+fn span_bits(layout: Layout, address: u16, count: u16) -> u16
+    requires { ⌜ 1 ≤ count ⌝ }
+    requires { ⌜ address + count ≤ registersEnd ⌝ }
+    ensures { λ r. ⌜ r ≡ spanBits layout address count ⌝ }
+    ensures { λ r. ⌜ r < 4096 ⌝ }
+{
+    match layout {
+        Layout::Ours => (count - 1) * 256 + address,
+        Layout::Makers => address * 64 + (count - 1),
+    }
+}
 
 // Numbers 2 and 3.
 fn write_head(number: u16, most: u16, words: u16) -> Head
@@ -28,9 +56,9 @@ fn write_head(number: u16, most: u16, words: u16) -> Head
 }
 
 // Numbers 4 and 5.
-fn ends_head(number: u16, ends: u16, words: u16) -> Head
+fn ends_head(layout: Layout, number: u16, ends: u16, words: u16) -> Head
     requires { ⌜ number ≤ 14 ⌝ }
-    ensures { λ r. ⌜ r ≡ pick (leb ends mostEnds && leb words mostBesideEnds) (Head.Word (number * 4096 + (ends * 32 + words))) Head.Outside ⌝ }
+    ensures { λ r. ⌜ r ≡ pick (leb ends mostEnds && leb words mostBesideEnds) (Head.Word (number * 4096 + endsBits layout ends words)) Head.Outside ⌝ }
 {
     if 127 < ends {
         return Head::Outside;
@@ -38,13 +66,13 @@ fn ends_head(number: u16, ends: u16, words: u16) -> Head
     if 31 < words {
         return Head::Outside;
     }
-    Head::Word(number * 4096 + (ends * 32 + words))
+    Head::Word(number * 4096 + ends_bits(layout, ends, words))
 }
 
 // Numbers 6 and 7.
-fn read_back_head(number: u16, ends: u16, words: u16) -> Head
+fn read_back_head(layout: Layout, number: u16, ends: u16, words: u16) -> Head
     requires { ⌜ number ≤ 14 ⌝ }
-    ensures { λ r. ⌜ r ≡ pick (leb ends mostEnds && (leb 1 words && leb words mostReadBack)) (Head.Word (number * 4096 + (ends * 32 + (words - 1)))) Head.Outside ⌝ }
+    ensures { λ r. ⌜ r ≡ pick (leb ends mostEnds && (leb 1 words && leb words mostReadBack)) (Head.Word (number * 4096 + endsBits layout ends (words - 1))) Head.Outside ⌝ }
 {
     if 127 < ends {
         return Head::Outside;
@@ -55,7 +83,7 @@ fn read_back_head(number: u16, ends: u16, words: u16) -> Head
     if 32 < words {
         return Head::Outside;
     }
-    Head::Word(number * 4096 + (ends * 32 + (words - 1)))
+    Head::Word(number * 4096 + ends_bits(layout, ends, words - 1))
 }
 
 // Numbers 8 and 9.
@@ -76,9 +104,9 @@ fn data_head(number: u16, count: u16, words: u16) -> Head
 }
 
 // Numbers 10 and 11: a register for each word.
-fn registers_head(number: u16, address: u16, words: u16) -> Head
+fn registers_head(layout: Layout, number: u16, address: u16, words: u16) -> Head
     requires { ⌜ number ≤ 14 ⌝ }
-    ensures { λ r. ⌜ r ≡ pick (ltb address registersEnd && spansOf address words) (Head.Word (number * 4096 + ((words - 1) * 256 + address))) Head.Outside ⌝ }
+    ensures { λ r. ⌜ r ≡ pick (ltb address registersEnd && spansOf address words) (Head.Word (number * 4096 + spanBits layout address words)) Head.Outside ⌝ }
 {
     if 12 <= address {
         return Head::Outside;
@@ -89,13 +117,13 @@ fn registers_head(number: u16, address: u16, words: u16) -> Head
     if 12 - address < words {
         return Head::Outside;
     }
-    Head::Word(number * 4096 + ((words - 1) * 256 + address))
+    Head::Word(number * 4096 + span_bits(layout, address, words))
 }
 
 // Numbers 12 and 13.
-fn read_head(number: u16, address: u16, count: u16, words: u16) -> Head
+fn read_head(layout: Layout, number: u16, address: u16, count: u16, words: u16) -> Head
     requires { ⌜ number ≤ 14 ⌝ }
-    ensures { λ r. ⌜ r ≡ pick (spansOf address count && eqb words 0) (Head.Word (number * 4096 + ((count - 1) * 256 + address))) Head.Outside ⌝ }
+    ensures { λ r. ⌜ r ≡ pick (spansOf address count && eqb words 0) (Head.Word (number * 4096 + spanBits layout address count)) Head.Outside ⌝ }
 {
     if words != 0 {
         return Head::Outside;
@@ -109,37 +137,40 @@ fn read_head(number: u16, address: u16, count: u16, words: u16) -> Head
     if 12 - address < count {
         return Head::Outside;
     }
-    Head::Word(number * 4096 + ((count - 1) * 256 + address))
+    Head::Word(number * 4096 + span_bits(layout, address, count))
 }
 
 // Number 14.
-fn reset_head(words: u16) -> Head
-    ensures { λ r. ⌜ r ≡ pick (eqb words 0) (Head.Word 0xE000) Head.Outside ⌝ }
+fn reset_head(layout: Layout, words: u16) -> Head
+    ensures { λ r. ⌜ r ≡ pick (eqb words 0) (Head.Word (14 * 4096 + fixedBits layout)) Head.Outside ⌝ }
 {
     if words != 0 {
         return Head::Outside;
     }
-    Head::Word(0xE000)
+    match layout {
+        Layout::Ours => Head::Word(0xE000),
+        Layout::Makers => Head::Word(0xE1E1),
+    }
 }
 
 // The command word of an order with so many data words.
-pub fn head(order: Order, words: u16) -> Head
-    ensures { λ r. ⌜ r ≡ headOf order words ⌝ }
+pub fn head(layout: Layout, order: Order, words: u16) -> Head
+    ensures { λ r. ⌜ r ≡ headOf layout order words ⌝ }
 {
     match order {
         Order::FwdWrCrc => write_head(2, 512, words),
         Order::FwdWr => write_head(3, 4096, words),
-        Order::FwdWrEndCrc { ends } => ends_head(4, ends, words),
-        Order::FwdWrEnd { ends } => ends_head(5, ends, words),
-        Order::FwdRdEndCrc { ends } => read_back_head(6, ends, words),
-        Order::FwdRdEnd { ends } => read_back_head(7, ends, words),
+        Order::FwdWrEndCrc { ends } => ends_head(layout, 4, ends, words),
+        Order::FwdWrEnd { ends } => ends_head(layout, 5, ends, words),
+        Order::FwdRdEndCrc { ends } => read_back_head(layout, 6, ends, words),
+        Order::FwdRdEnd { ends } => read_back_head(layout, 7, ends, words),
         Order::DataRdCrc { count } => data_head(8, count, words),
         Order::DataRd { count } => data_head(9, count, words),
-        Order::RegWrCrc { address } => registers_head(10, address, words),
-        Order::RegWr { address } => registers_head(11, address, words),
-        Order::RegRdCrc { address, count } => read_head(12, address, count, words),
-        Order::RegRd { address, count } => read_head(13, address, count, words),
-        Order::SoftResetCrc => reset_head(words),
+        Order::RegWrCrc { address } => registers_head(layout, 10, address, words),
+        Order::RegWr { address } => registers_head(layout, 11, address, words),
+        Order::RegRdCrc { address, count } => read_head(layout, 12, address, count, words),
+        Order::RegRd { address, count } => read_head(layout, 13, address, count, words),
+        Order::SoftResetCrc => reset_head(layout, words),
     }
 }
 

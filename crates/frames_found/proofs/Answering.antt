@@ -10,7 +10,7 @@ use lib.ListN.{length, take}
 use borrow.Author.Tests.{lt-leb}
 use Rattle.base.specs.Pick.{pick, pick-keeps}
 use Rattle.crc16.specs.Crc.{crcWord, crcFrom}
-use Rattle.command.specs.Layouts.{ours}
+use Rattle.command.specs.Layouts.{layouts}
 use Rattle.state.specs.Rings.{oldest}
 use Rattle.state.specs.declared.Phase.{Phase}
 use Rattle.state.specs.declared.Phase.the-variants.{Idle, Answering}
@@ -28,7 +28,7 @@ use Rattle.bridge.proofs.Reached.{Obeys}
 use Rattle.order.specs.Framed.{hostWords}
 use Rattle.frames_found.specs.Found.{unbroken}
 use Rattle.frames_found.specs.Answered.{sdoIn, rxWord, register, foundBy, handedAt, registersAt}
-use Rattle.frames_found.proofs.Turns.{phaseOf, planAt, plan-in, obeys-on, word-sdo, word-phase}
+use Rattle.frames_found.proofs.Turns.{phaseOf, View, blockedView, OfPhase, planAt, plan-in, obeys-on, word-sdo, word-phase}
 use Rattle.frames_found.proofs.Coming.{Tale, Comes, comes, silent}
 use Rattle.frames_found.proofs.Collecting.{IsIdle, idle-blocked}
 
@@ -60,7 +60,7 @@ pick-ap f false x y = refl
 
 module _ (c : Config) (w : ℕ) where
   -- by the plan of the phase
-  gives-in : (ph after : Phase) (v : ℕ) → phaseOf c ≡ ph → (p : Plan) → plannedIn ours (c .bridge) ph w (oldest (c .rx) (c .bridge .receiving .rx)) ≡ p
+  gives-in : (ph after : Phase) (v : ℕ) → phaseOf c ≡ ph → (p : Plan) → plannedIn layouts (c .bridge) ph w (oldest (c .rx) (c .bridge .receiving .rx)) ≡ p
       → p .sdo ≡ v → p .phase ≡ after → p .status ≡ false → Gives c w v after
   gives-in ph after v h p e d f s =
       let q : planAt c w ≡ p = plan-in c w ph h ∙ e in record { sdo-is = rw q d; phase-is = rw q f; no-status = rw q s }
@@ -91,18 +91,18 @@ module _ (c : Config) (w : ℕ) where
 -- 2. A run.
 
 -- the phase of an answer, which ticks and clock readings leave alone
-abbrev pub IsAnswering : Reply → ℕ → Phase → Type 0
-IsAnswering reply sum ph = ph ≡ Answering reply sum
+abbrev pub IsAnswering : Reply → ℕ → View → Type 0
+IsAnswering reply sum v = v .phase ≡ Answering reply sum
 
-answering-blocked : (reply : Reply) (sum : ℕ) (ph : Phase) → IsAnswering reply sum ph → IsAnswering reply sum (blockedIn ph)
+answering-blocked : (reply : Reply) (sum : ℕ) (v : View) → IsAnswering reply sum v → IsAnswering reply sum (blockedView v)
 unfolding blockedIn
-answering-blocked reply sum ph h = rw h
+answering-blocked reply sum v h = rw h
 
 module _ (c : Config) (w v : ℕ) (ph : Phase) (o : Obeys c) (g : Gives c w v ph) where
-  gives-sdo : outOf ours c (Word w) .answer .sdo ≡ v
+  gives-sdo : outOf layouts c (Word w) .answer .sdo ≡ v
   gives-sdo = word-sdo c o w ∙ g .sdo-is
 
-  gives-phase : phaseOf (next ours c (Word w)) ≡ ph
+  gives-phase : phaseOf (next layouts c (Word w)) ≡ ph
   unfolding concluded pick
   gives-phase = rw (word-phase c o w, g .no-status) (g .phase-is)
 
@@ -118,23 +118,23 @@ pub record Given (count sum : ℕ) (vs sdo : List ℕ) : Type 0 where
 
 -- the CRC, and nothing more
 check-run : (ws : List ℕ) (es : List Event) (c : Config) (sum : ℕ) → Obeys c → phaseOf c ≡ Answering Check sum → unbroken es ≡ true → hostWords es ≡ ws
-    → length ws ≡ 1 → sdoIn ours c es ≡ sum ∷ []
+    → length ws ≡ 1 → sdoIn layouts c es ≡ sum ∷ []
 check-run [] es c sum o h u e n = absurd (omega arith)
 check-run (w ∷ (x ∷ ws)) es c sum o h u e n = absurd (omega arith)
 check-run (w ∷ []) es c sum o h u e n =
     let m = answer-comes Check es c sum w [] o h u e in
-    let g = gives-check (m .at) w sum (m .phase) in
+    let g = gives-check (m .at) w sum (m .view) in
     let s =
-    silent IsIdle idle-blocked (m .rest) _ (obeys-on (m .at) _ (m .obeys)) (gives-phase (m .at) w sum _ (m .obeys) g) (m .on) (m .words-are) in
+    silent (OfPhase IsIdle) (λ v i. idle-blocked (v .phase) i) (m .rest) _ (obeys-on (m .at) _ (m .obeys)) (gives-phase (m .at) w sum _ (m .obeys) g) (m .on) (m .words-are) in
     ap (λ (t : Tale). t .sdo) (m .tale-is) ∙ rw (gives-sdo (m .at) w sum _ (m .obeys) g, s .sdo-are)
 
 pub status-run : (ws : List ℕ) (es : List Event) (c : Config) (s sum : ℕ) → Obeys c → phaseOf c ≡ Answering (Status s) sum → unbroken es ≡ true
-    → hostWords es ≡ ws → length ws ≡ 2 → Given 1 sum (s ∷ []) (sdoIn ours c es)
+    → hostWords es ≡ ws → length ws ≡ 2 → Given 1 sum (s ∷ []) (sdoIn layouts c es)
 unfolding crcFrom
 status-run [] es c s sum o h u e n = absurd (omega arith)
 status-run (w ∷ ws) es c s sum o h u e n =
     let m = answer-comes (Status s) es c sum w ws o h u e in
-    let g = gives-status (m .at) w sum s (m .phase) in
+    let g = gives-status (m .at) w sum s (m .view) in
     let k =
     check-run ws (m .rest) _ (crcWord sum s) (obeys-on (m .at) _ (m .obeys)) (gives-phase (m .at) w s _ (m .obeys) g) (m .on) (m .words-are)
     (omega arith) in
@@ -161,19 +161,19 @@ module _ (reply : ℕ → ℕ → Reply) (value : Config → ℕ → ℕ)
 
   read-run : (l : ℕ) (ws : List ℕ) (es : List Event) (c : Config) (sum a : ℕ) → Obeys c → phaseOf c ≡ Answering (reply a (suc l)) sum
       → unbroken es ≡ true → hostWords es ≡ ws → length ws ≡ suc l + 1
-      → Given (suc l) sum (valuesAt value a (take (suc l) (foundBy ours c es))) (sdoIn ours c es)
+      → Given (suc l) sum (valuesAt value a (take (suc l) (foundBy layouts c es))) (sdoIn layouts c es)
   unfolding crcFrom valuesAt
   read-run l [] es c sum a o h u e n = absurd (omega arith)
   read-run zero (w ∷ ws) es c sum a o h u e n =
       let m = answer-comes (reply a 1) es c sum w ws o h u e in
-      let g = gives-last (m .at) w sum a (m .phase) in
+      let g = gives-last (m .at) w sum a (m .view) in
       let k =
       check-run ws (m .rest) _ _ (obeys-on (m .at) _ (m .obeys)) (gives-phase (m .at) w _ _ (m .obeys) g) (m .on) (m .words-are) (omega arith) in
       rw (ap (λ (t : Tale). t .moments) (m .tale-is), ap (λ (t : Tale). t .sdo) (m .tale-is))
       (record { so-many = refl; sdo-is = rw (gives-sdo (m .at) w _ _ (m .obeys) g, k) })
   read-run (suc l) (w ∷ ws) es c sum a o h u e n =
       let m = answer-comes (reply a (suc (suc l))) es c sum w ws o h u e in
-      let g = gives-more (m .at) w sum a l (m .phase) in
+      let g = gives-more (m .at) w sum a l (m .view) in
       let k =
       read-run l ws (m .rest) _ _ (a + 1) (obeys-on (m .at) _ (m .obeys)) (gives-phase (m .at) w _ _ (m .obeys) g) (m .on) (m .words-are) (omega arith) in
       rw (ap (λ (t : Tale). t .moments) (m .tale-is), ap (λ (t : Tale). t .sdo) (m .tale-is))
@@ -181,7 +181,7 @@ module _ (reply : ℕ → ℕ → Reply) (value : Config → ℕ → ℕ)
 
   pub reads : (count : ℕ) (es : List Event) (c : Config) (sum a : ℕ) → 1 ≤ count → Obeys c → phaseOf c ≡ Answering (reply a count) sum
       → unbroken es ≡ true → length (hostWords es) ≡ count + 1
-      → Given count sum (valuesAt value a (take count (foundBy ours c es))) (sdoIn ours c es)
+      → Given count sum (valuesAt value a (take count (foundBy layouts c es))) (sdoIn layouts c es)
   reads zero es c sum a k o h u n = absurd (omega arith)
   reads (suc l) es c sum a k o h u n = read-run l (hostWords es) es c sum a o h u refl n
 
@@ -197,11 +197,11 @@ registers-are a [] = refl
 registers-are a (c ∷ cs) = rw (registers-are (a + 1) cs)
 
 module _ (count : ℕ) (es : List Event) (c : Config) (sum : ℕ) (k : 1 ≤ count) (o : Obeys c) (u : unbroken es ≡ true) (n : length (hostWords es) ≡ count + 1) where
-  pub data-run : phaseOf c ≡ Answering (Data count) sum → Given count sum (handedAt (take count (foundBy ours c es))) (sdoIn ours c es)
+  pub data-run : phaseOf c ≡ Answering (Data count) sum → Given count sum (handedAt (take count (foundBy layouts c es))) (sdoIn layouts c es)
   data-run h =
-      rw (← (handed-are 0 (take count (foundBy ours c es)))) (reads ofData ofRx (λ d w s a l. gives-data d w s a l) count es c sum 0 k o h u n)
+      rw (← (handed-are 0 (take count (foundBy layouts c es)))) (reads ofData ofRx (λ d w s a l. gives-data d w s a l) count es c sum 0 k o h u n)
 
   pub register-run : (a : ℕ) → phaseOf c ≡ Answering (Registers a count) sum
-      → Given count sum (registersAt a (take count (foundBy ours c es))) (sdoIn ours c es)
+      → Given count sum (registersAt a (take count (foundBy layouts c es))) (sdoIn layouts c es)
   register-run a h =
-      rw (← (registers-are a (take count (foundBy ours c es)))) (reads ofRegisters register (λ d w s b l. gives-register d w s b l) count es c sum a k o h u n)
+      rw (← (registers-are a (take count (foundBy layouts c es)))) (reads ofRegisters register (λ d w s b l. gives-register d w s b l) count es c sum a k o h u n)

@@ -7,10 +7,11 @@ use native.Mathlib.Omega.{arith}
 use lib.ListN.{take}
 use Rattle.base.specs.Pick.{pick, pick-keeps}
 use Rattle.base.specs.Truth.{never}
-use Rattle.command.specs.Layouts.{ours}
+use Rattle.command.specs.Layouts.{layouts}
 use Rattle.command.specs.declared.Command.{Command}
 use Rattle.command.specs.declared.Command.the-variants.{Filler, Malformed, Forward, DataRead, RegisterWrite, RegisterRead, SoftReset}
 use Rattle.registers.specs.declared.Control.{Control}
+use Rattle.registers.specs.declared.Regs.{Regs}
 use Rattle.state.specs.Frame.{dataWords, isForward}
 use Rattle.state.specs.declared.Bridge.{Bridge}
 use Rattle.state.specs.Sending.{idle}
@@ -32,6 +33,7 @@ use Rattle.plan.specs.declared.Plan.{Plan}
 use Rattle.ticks.specs.Ticks.{blockedIn}
 use Rattle.frames_found.specs.Frames.{isCommand}
 use Rattle.frames_found.specs.Found.{isOfState}
+use Rattle.frames_found.proofs.Turns.{View, blockedView}
 
 -- the phase of a frame of which so many data words came, with the CRC so far
 pub record Collects (command : Command) (got sum : ℕ) (ph : Phase) : Type 0 where
@@ -52,25 +54,42 @@ pub idle-blocked : (ph : Phase) → IsIdle ph → IsIdle (blockedIn ph)
 unfolding blockedIn
 idle-blocked ph h = rw h
 
+-- a frame that collects, with the CRC that its command word found in force
+pub record Gathers (command : Command) (got sum : ℕ) (xmodem : Bool) (v : View) : Type 0 where
+  pub collects : Collects command got sum (v .phase)
+  pub latched : v .xmodem ≡ xmodem
+
+pub gathers-blocked : (command : Command) (got sum : ℕ) (xmodem : Bool) (v : View) → Gathers command got sum xmodem v
+    → Gathers command got sum xmodem (blockedView v)
+gathers-blocked command got sum xmodem v h = record { collects = collects-blocked command got sum (v .phase) (h .collects); latched = h .latched }
+
+-- no frame is open, and the registers are these
+pub record Rests (r : Regs) (v : View) : Type 0 where
+  pub idle : IsIdle (v .phase)
+  pub regs-are : v .regs ≡ r
+
+pub rests-blocked : (r : Regs) (v : View) → Rests r v → Rests r (blockedView v)
+rests-blocked r v h = record { idle = idle-blocked (v .phase) (h .idle); regs-are = h .regs-are }
+
 -- a plan after which the frame goes on so
 pub record GoesOn (command : Command) (got sum : ℕ) (p : Plan) : Type 0 where
   pub collects : Collects command got sum (p .phase)
   pub no-status : p .status ≡ false
   pub of-state : isOfState (p .note) ≡ true
 
--- what the frame is answered with: STATUS, or what the command asks for
-abbrev pub afterFrame : Command → Control → Phase
-afterFrame Filler control = Idle
-afterFrame Malformed control = Idle
-afterFrame (Forward crc words ends reads) control = concluded ours true control Idle
-afterFrame (DataRead crc words) control = Answering (Data words) (ours .crcStart)
-afterFrame (RegisterWrite crc address count) control = concluded ours true control Idle
-afterFrame (RegisterRead crc address count) control = Answering (Registers address count) (ours .crcStart)
-afterFrame SoftReset control = concluded ours true control Idle
+-- what the frame is answered with, by its CRC: STATUS, or what the command asks for
+abbrev pub afterFrame : Bool → Command → Control → Phase
+afterFrame xmodem Filler control = Idle
+afterFrame xmodem Malformed control = Idle
+afterFrame xmodem (Forward crc words ends reads) control = concluded layouts xmodem true control Idle
+afterFrame xmodem (DataRead crc words) control = Answering (Data words) (layouts .crcStart xmodem)
+afterFrame xmodem (RegisterWrite crc address count) control = concluded layouts xmodem true control Idle
+afterFrame xmodem (RegisterRead crc address count) control = Answering (Registers address count) (layouts .crcStart xmodem)
+afterFrame xmodem SoftReset control = concluded layouts xmodem true control Idle
 
 -- a plan that ends the frame so
-pub record Ends (command : Command) (p : Plan) : Type 0 where
-  pub answer-is : (control : Control) → concluded ours (p .status) control (p .phase) ≡ afterFrame command control
+pub record Ends (xmodem : Bool) (command : Command) (p : Plan) : Type 0 where
+  pub answer-is : (control : Control) → concluded layouts xmodem (p .status) control (p .phase) ≡ afterFrame xmodem command control
   pub of-state : isOfState (p .note) ≡ true
 
 abbrev Granting : Granted → Type 0
@@ -119,7 +138,8 @@ module _ (b : Bridge) where
   data-goes SoftReset at w h = absurd (omega arith)
 
   -- note 11
-  pub crc-ends : (command : Command) (mine : ℕ) (blocked : Bool) → isCommand command ≡ true → Ends command (crcDue ours b command mine blocked true)
+  pub crc-ends : (command : Command) (mine : ℕ) (blocked : Bool) → isCommand command ≡ true
+      → Ends (b .frame .xmodem) command (crcDue layouts b command mine blocked true)
   unfolding crcDue forwardClosed registersClosed readClosed resetClosed concluded pick
   crc-ends Filler mine blocked h = never false h refl
   crc-ends Malformed mine blocked h = never false h refl
@@ -133,5 +153,5 @@ module _ (b : Bridge) where
   crc-ends (RegisterWrite false address count) mine blocked h = record { answer-is = λ k. refl; of-state = refl }
   crc-ends (RegisterRead crc address count) mine blocked h = record { answer-is = λ k. refl; of-state = refl }
   crc-ends SoftReset mine blocked h =
-      pick-keeps (Ends SoftReset) (idle (b .sending .sender)) _ _ (λ t. record { answer-is = λ k. refl; of-state = refl })
+      pick-keeps (Ends (b .frame .xmodem) SoftReset) (idle (b .sending .sender)) _ _ (λ t. record { answer-is = λ k. refl; of-state = refl })
       (λ t. record { answer-is = λ k. refl; of-state = refl })

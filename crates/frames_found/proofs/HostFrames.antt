@@ -7,8 +7,9 @@ use native.Mathlib.Omega.{arith}
 use lib.Dec.{ltb, leb, eqb}
 use lib.ListN.{length}
 use borrow.Author.Tests.{le-leb, ltb-true}
-use Rattle.command.specs.Layout.{registersEnd}
 use Rattle.base.specs.Pick.{pick-true, and-both}
+use Rattle.layout.specs.declared.Layout.{Layout}
+use Rattle.command.specs.Layout.{registersEnd}
 use Rattle.frames.specs.Orders.{fieldsWithin, within}
 use Rattle.frames.specs.Frames.{beside, frameOf, over, out, writtenOf}
 use Rattle.frames.specs.declared.Order.{Order}
@@ -24,10 +25,10 @@ use Rattle.frames_found.proofs.Refusals.{outside, short, due-is, status
 use Rattle.frames_found.proofs.Ruled.{ruled}
 use Rattle.frames_found.proofs.Silence.{silent}
 
-written : (o : Order) (words buffer : List ℕ) → within o (length words) ≡ true → length words + beside ≤ length buffer
-    → out (Frame (length words + beside)) (over (frameOf o words) buffer) ≡ writtenOf o words buffer
+written : (k : Layout) (s : ℕ) (o : Order) (words buffer : List ℕ) → within o (length words) ≡ true → length words + beside ≤ length buffer
+    → out (Frame (length words + beside)) (over (frameOf k s o words) buffer) ≡ writtenOf k s o words buffer
 unfolding writtenOf
-written o words buffer h k = pick-true _ _ _ _ h (pick-true _ _ _ _ (le-leb _ _ k) refl)
+written k s o words buffer h m = pick-true _ _ _ _ h (pick-true _ _ _ _ (le-leb _ _ m) refl)
 
 -- a number of words with which an order is written
 module _ (ends : ℕ) (h : leb ends 127 ≡ true) where
@@ -61,7 +62,7 @@ answerable SoftResetCrc h = record { some = 0; allowed = refl }
 pub host-frames : HostFrames
 host-frames = record {
   numbered = numbered;
-  written = λ o words buffer h k. sym (written o words buffer h k);
+  written = λ k s o words buffer h m. sym (written k s o words buffer h m);
   outside = outside;
   short = short;
   decodes = decodes;

@@ -9,7 +9,8 @@ use lib.ListN.{length, getD, take, drop}
 use lib.Seq.{split-at, drop-length, length-take-le}
 use borrow.Author.Tests.{lt-leb, eqb-true}
 use Rattle.base.specs.Pick.{pick-true, pick-false, pick-keeps, and-l, and-r}
-use Rattle.crc16.specs.Crc.{crcOf}
+use Rattle.layout.specs.declared.Layout.{Layout}
+use Rattle.crc16.specs.Crc.{crcFrom}
 use Rattle.frames.specs.Answers.{isAnswer, answerOf, dueOf, toldBy, toldOf}
 use Rattle.frames.specs.Frames.{beside, checked, out, writtenOf}
 use Rattle.frames.specs.Orders.{fieldsWithin, wordsWithin, within, meant}
@@ -23,14 +24,14 @@ use Rattle.frames.specs.declared.Written.the-variants.{OutsideLimits, BufferSho
 use Rattle.frames_found.specs.Answered.{answeredWith}
 use Rattle.frames_found.specs.HostFrames.{Exactly}
 
-module _ (o : Order) (words buffer : List ℕ) where
-  pub outside : within o (length words) ≡ false → writtenOf o words buffer ≡ out OutsideLimits buffer
+module _ (k : Layout) (s : ℕ) (o : Order) (words buffer : List ℕ) where
+  pub outside : within o (length words) ≡ false → writtenOf k s o words buffer ≡ out OutsideLimits buffer
   unfolding writtenOf
   outside h = sym (pick-false _ _ _ _ h refl)
 
-  pub short : within o (length words) ≡ true → length buffer < length words + beside → writtenOf o words buffer ≡ out BufferShort buffer
+  pub short : within o (length words) ≡ true → length buffer < length words + beside → writtenOf k s o words buffer ≡ out BufferShort buffer
   unfolding writtenOf
-  short h k = sym (pick-true _ _ _ _ h (pick-false _ _ _ _ (lt-leb _ _ k) refl))
+  short h m = sym (pick-true _ _ _ _ h (pick-false _ _ _ _ (lt-leb _ _ m) refl))
 
 -- the answer is due that the bridge gives to the command
 given-to : (o : Order) (n : ℕ) → answerOf o ≡ answeredWith (meant o n)
@@ -53,11 +54,11 @@ unfolding dueOf
 due-is o n h = sym (pick-true _ _ _ _ (and-l (fieldsWithin o) (wordsWithin o n) h) refl) ∙ given-to o n
 
 -- what passes as an answer is so many words and their CRC
-exactly : (n : ℕ) (words : List ℕ) → isAnswer n words ≡ true → Exactly n words
+exactly : (s n : ℕ) (words : List ℕ) → isAnswer s n words ≡ true → Exactly s n words
 unfolding isAnswer
-exactly n words t =
-    let l = eqb-true (length words) (n + 1) (and-l (eqb (length words) (n + 1)) (eqb (getD words n 0) (crcOf (take n words))) t) in
-    let c = eqb-true (getD words n 0) (crcOf (take n words)) (and-r (eqb (length words) (n + 1)) _ t) in
+exactly s n words t =
+    let l = eqb-true (length words) (n + 1) (and-l (eqb (length words) (n + 1)) (eqb (getD words n 0) (crcFrom s (take n words))) t) in
+    let c = eqb-true (getD words n 0) (crcFrom s (take n words)) (and-r (eqb (length words) (n + 1)) _ t) in
     let m : n < length words = omega (arith, l) in
     let e : suc n ≡ length words = omega (arith, l) in
     record {
@@ -69,33 +70,33 @@ exactly n words t =
     }
 
 -- what is told says which answer it is
-abbrev Right : List ℕ → Told → Type 0
-Right words (Status value) = Exactly 1 words × (getD words 0 0 ≡ value)
-Right words (Data count) = Exactly count words
-Right words Refused = Unit {0}
+abbrev Right : ℕ → List ℕ → Told → Type 0
+Right s words (Status value) = Exactly s 1 words × (getD words 0 0 ≡ value)
+Right s words (Data count) = Exactly s count words
+Right s words Refused = Unit {0}
 
-right-by : (d : Due) (words : List ℕ) → Right words (toldBy d words)
+right-by : (s : ℕ) (d : Due) (words : List ℕ) → Right s words (toldBy s d words)
 unfolding toldBy
-right-by Nothing words = tt
-right-by StatusDue words = pick-keeps (Right words) (isAnswer 1 words) _ _ (λ t. (exactly 1 words t, refl)) (λ t. tt)
-right-by (DataDue count) words = pick-keeps (Right words) (isAnswer count words) _ _ (λ t. exactly count words t) (λ t. tt)
+right-by s Nothing words = tt
+right-by s StatusDue words = pick-keeps (Right s words) (isAnswer s 1 words) _ _ (λ t. (exactly s 1 words t, refl)) (λ t. tt)
+right-by s (DataDue count) words = pick-keeps (Right s words) (isAnswer s count words) _ _ (λ t. exactly s count words t) (λ t. tt)
 
-right : (o : Order) (words : List ℕ) → Right words (toldOf o words)
+right : (s : ℕ) (o : Order) (words : List ℕ) → Right s words (toldOf s o words)
 unfolding toldOf
-right o words = right-by (dueOf o) words
+right s o words = right-by s (dueOf o) words
 
-pub status-right : (o : Order) (words : List ℕ) (value : ℕ) → toldOf o words ≡ Status value → words ≡ checked (value ∷ [])
-status-right o words value e =
-    let r : Right words (Status value) = subst (Right words) e (right o words) in
+pub status-right : (s : ℕ) (o : Order) (words : List ℕ) (value : ℕ) → toldOf s o words ≡ Status value → words ≡ checked s (value ∷ [])
+status-right s o words value e =
+    let r : Right s words (Status value) = subst (Right s words) e (right s o words) in
     status-of words value (r .0) (r .1)
   where
-    status-of : (words : List ℕ) (value : ℕ) → Exactly 1 words → getD words 0 0 ≡ value → words ≡ checked (value ∷ [])
+    status-of : (words : List ℕ) (value : ℕ) → Exactly s 1 words → getD words 0 0 ≡ value → words ≡ checked s (value ∷ [])
     status-of words value x v = one (x .given) (x .so-many) (x .words-are)
       where
-        one : (given : List ℕ) → length given ≡ 1 → words ≡ checked given → words ≡ checked (value ∷ [])
+        one : (given : List ℕ) → length given ≡ 1 → words ≡ checked s given → words ≡ checked s (value ∷ [])
         one [] l w = absurd (omega (arith, l))
-        one (g ∷ []) l w = let s : g ≡ value = sym (ap (λ (xs : List ℕ). getD xs 0 0) w) ∙ v in w ∙ ap (λ (y : ℕ). checked (y ∷ [])) s
+        one (g ∷ []) l w = let same : g ≡ value = sym (ap (λ (xs : List ℕ). getD xs 0 0) w) ∙ v in w ∙ ap (λ (y : ℕ). checked s (y ∷ [])) same
         one (g ∷ (h ∷ gs)) l w = absurd (omega (arith, l))
 
-pub data-right : (o : Order) (words : List ℕ) (count : ℕ) → toldOf o words ≡ Data count → Exactly count words
-data-right o words count e = subst (Right words) e (right o words)
+pub data-right : (s : ℕ) (o : Order) (words : List ℕ) (count : ℕ) → toldOf s o words ≡ Data count → Exactly s count words
+data-right s o words count e = subst (Right s words) e (right s o words)

@@ -1,4 +1,4 @@
--- Words of 0xFFFF alone are no answer. Assumes nothing.
+-- Words of 0xFFFF alone are no answer, by either CRC. Assumes nothing.
 use mathlib.Core.Path.{_≡_, refl, sym, _∙_, ap}
 use mathlib.Core.Bool.{Bool, true, false, not, _&&_}
 use mathlib.Core.List.{List, _∷_}
@@ -7,10 +7,11 @@ use native.Mathlib.Omega.{arith}
 use lib.Dec.{leb, eqb}
 use lib.ListN.{length, getD, take, replicate, length-replicate, getD-replicate}
 use borrow.Author.Tests.{leb-true, le-leb, eqb-true, not-true, eqb-false}
-use Rattle.command.specs.Layout.{registersEnd}
 use Rattle.base.specs.Bits.{allOnes, val, odd, bit, highFirst}
 use Rattle.base.specs.Pick.{pick, pick-keeps, and-l, and-r, and-both}
-use Rattle.crc16.specs.Crc.{shift, crcBit, crcBits, crcWord, crcFrom, crcOf}
+use Rattle.crc16.specs.Crc.{shift, crcBit, crcBits, crcWord, crcFrom}
+use Rattle.command.specs.Layout.{registersEnd}
+use Rattle.command.specs.Layouts.{startBy}
 use Rattle.frames.specs.Answers.{isAnswer, answerOf, dueOf, toldBy, toldOf}
 use Rattle.frames.specs.Orders.{fieldsWithin}
 use Rattle.frames.specs.declared.Due.{Due}
@@ -26,9 +27,10 @@ others zero c = true
 others (suc n) c = not (eqb (crcWord c allOnes) allOnes) && others n (crcWord c allOnes)
 
 -- computed, for the longest answer
-to-the-longest : others 256 0xFFFF ≡ true
-unfolding crcWord crcBits crcBit shift highFirst bit odd val
-to-the-longest = refl
+to-the-longest : (xmodem : Bool) → others 256 (startBy xmodem) ≡ true
+unfolding startBy pick crcWord crcBits crcBit shift highFirst bit odd val
+to-the-longest true = refl
+to-the-longest false = refl
 
 no-true : (t : Bool) → (t ≡ true → ⊥) → t ≡ false
 no-true true h = absurd (h refl)
@@ -47,31 +49,31 @@ take-ones zero n h = refl
 take-ones (suc k) zero h = absurd (omega arith)
 take-ones (suc k) (suc n) h = ap (λ (xs : List ℕ). allOnes ∷ xs) (take-ones k n (omega arith))
 
-module _ (n : ℕ) where
+module _ (s : ℕ) (all : others 256 s ≡ true) (n : ℕ) where
   -- of no length that an answer can have
-  no-answer : (k : ℕ) → k < 256 → isAnswer (suc k) (replicate n allOnes) ≡ false
-  unfolding isAnswer crcOf
-  no-answer k h = no-true _ (λ t. never-ones 256 0xFFFF k to-the-longest h (crc-is t))
+  no-answer : (k : ℕ) → k < 256 → isAnswer s (suc k) (replicate n allOnes) ≡ false
+  unfolding isAnswer
+  no-answer k h = no-true _ (λ t. never-ones 256 s k all h (crc-is t))
     where
       words : List ℕ
       words = replicate n allOnes
 
-      crc-is : (eqb (length words) (suc k + 1) && eqb (getD words (suc k) 0) (crcFrom 0xFFFF (take (suc k) words))) ≡ true
-          → crcFrom 0xFFFF (replicate (suc k) allOnes) ≡ allOnes
+      crc-is : (eqb (length words) (suc k + 1) && eqb (getD words (suc k) 0) (crcFrom s (take (suc k) words))) ≡ true
+          → crcFrom s (replicate (suc k) allOnes) ≡ allOnes
       crc-is t =
-          let l = eqb-true (length words) (suc k + 1) (and-l _ (eqb (getD words (suc k) 0) (crcFrom 0xFFFF (take (suc k) words))) t) in
+          let l = eqb-true (length words) (suc k + 1) (and-l _ (eqb (getD words (suc k) 0) (crcFrom s (take (suc k) words))) t) in
           let r = length-replicate n allOnes in
           let m : suc k < n = omega (arith, l, r) in
-          ap (λ (xs : List ℕ). crcFrom 0xFFFF xs) (sym (take-ones (suc k) n (omega arith)))
+          ap (λ (xs : List ℕ). crcFrom s xs) (sym (take-ones (suc k) n (omega arith)))
           ∙ sym (eqb-true (getD words (suc k) 0) _ (and-r (eqb (length words) (suc k + 1)) _ t)) ∙ getD-replicate n (suc k) allOnes 0 m
 
-  none-told : (count : ℕ) → (leb 1 count && leb count 256) ≡ true → toldBy (DataDue count) (replicate n allOnes) ≡ Refused
+  none-told : (count : ℕ) → (leb 1 count && leb count 256) ≡ true → toldBy s (DataDue count) (replicate n allOnes) ≡ Refused
   unfolding toldBy pick
   none-told zero h = absurd (omega (arith, leb-true 1 0 (and-l (leb 1 0) (leb 0 256) h)))
   none-told (suc k) h =
       let b = leb-true (suc k) 256 (and-r (leb 1 (suc k)) (leb (suc k) 256) h) in rw (no-answer k (omega (arith, b)))
 
-  no-status : toldBy StatusDue (replicate n allOnes) ≡ Refused
+  no-status : toldBy s StatusDue (replicate n allOnes) ≡ Refused
   unfolding toldBy pick
   no-status = rw (no-answer 0 (omega arith))
 
@@ -80,7 +82,7 @@ module _ (n : ℕ) where
       let b = leb-true (address + count) registersEnd (and-r (leb 1 count) (leb (address + count) registersEnd) h) in
       and-both (leb 1 count) (leb count 256) (and-l (leb 1 count) (leb (address + count) registersEnd) h) (le-leb count 256 (omega (arith, b)))
 
-  silent-due : (o : Order) → fieldsWithin o ≡ true → toldBy (answerOf o) (replicate n allOnes) ≡ Refused
+  silent-due : (o : Order) → fieldsWithin o ≡ true → toldBy s (answerOf o) (replicate n allOnes) ≡ Refused
   silent-due FwdWrCrc h = no-status
   silent-due FwdWr h = no-status
   silent-due (FwdWrEndCrc ends) h = no-status
@@ -97,5 +99,6 @@ module _ (n : ℕ) where
 
 pub silent : Silent
 unfolding toldOf dueOf toldBy
-silent o n =
-    pick-keeps (λ (d : Due). toldBy d (replicate n allOnes) ≡ Refused) (fieldsWithin o) (answerOf o) Nothing (silent-due n o) (λ t. refl)
+silent xmodem o n =
+    pick-keeps (λ (d : Due). toldBy (startBy xmodem) d (replicate n allOnes) ≡ Refused) (fieldsWithin o) (answerOf o) Nothing
+    (silent-due (startBy xmodem) (to-the-longest xmodem) n o) (λ t. refl)

@@ -7,7 +7,7 @@ use lib.Dec.{eqb}
 use lib.ListN.{length, take}
 use Rattle.base.specs.Bits.{bit}
 use Rattle.base.specs.Pick.{pick}
-use Rattle.command.specs.Layouts.{Layout, ours}
+use Rattle.command.specs.Layouts.{Layouts, layouts}
 use Rattle.command.specs.declared.Command.{Command}
 use Rattle.command.specs.declared.Command.the-variants.{Filler, Malformed, Forward, DataRead, RegisterWrite, RegisterRead, SoftReset}
 use Rattle.registers.specs.Registers.{statusOf, readOf}
@@ -26,11 +26,11 @@ use Rattle.frames.specs.declared.Told.the-variants.{Status, Data}
 use Rattle.frames_found.specs.Moments.{Moment, momentsIn}
 
 -- the SDO words of a run, one for each host word: what the host reads
-unfoldable pub sdoIn : Layout → Config → List Event → List ℕ
+unfoldable pub sdoIn : Layouts → Config → List Event → List ℕ
 sdoIn l c es = map (λ (m : Moment). m .answer .sdo) (momentsIn l c es)
 
 -- the bridge and its stores as each host word finds them
-unfoldable pub foundBy : Layout → Config → List Event → List Config
+unfoldable pub foundBy : Layouts → Config → List Event → List Config
 foundBy l c es = map (λ (m : Moment). m .at) (momentsIn l c es)
 
 -- "Reads answer the words, each read as it is answered" (01 Frames): the next of the values that an order asks for, as it is at that moment. The oldest word
@@ -76,11 +76,12 @@ answeredWith (RegisterWrite crc address count) = StatusDue
 answeredWith (RegisterRead crc address count) = DataDue count
 answeredWith SoftReset = StatusDue
 
--- c is as the frame's CRC word left it, and es brings as many host words as the answer has. "unless SPICTRL bit 0 is 1" (01 Frames).
-pub record ReadsBack (o : Order) (c : Config) (es : List Event) : Type 0 where
+-- c is as the frame's CRC word left it, and es brings as many host words as the answer has; s is where the frame's CRC started, and so its answer's: "the next
+-- SPI command uses the new algorithm" (001 7.5.3), also where the frame itself changed it. "unless SPICTRL bit 0 is 1" (01 Frames).
+pub record ReadsBack (s : ℕ) (o : Order) (c : Config) (es : List Event) : Type 0 where
   -- "STATUS and its CRC .. taken at the CRC word after its effects"
   pub status : answerOf o ≡ StatusDue → bit 0 (c .bridge .control .regs .spictrl) ≡ false → length (hostWords es) ≡ 2
-      → toldOf o (sdoIn ours c es) ≡ Status (statusOf (c .bridge .control))
+      → toldOf s o (sdoIn layouts c es) ≡ Status (statusOf (c .bridge .control))
   pub no-status : answerOf o ≡ StatusDue → bit 0 (c .bridge .control .regs .spictrl) ≡ true → c .bridge .frame .phase ≡ Idle
-  pub data-told : (count : ℕ) → answerOf o ≡ DataDue count → length (hostWords es) ≡ count + 1 → toldOf o (sdoIn ours c es) ≡ Data count
-  pub data-is : (count : ℕ) → answerOf o ≡ DataDue count → length (hostWords es) ≡ count + 1 → take count (sdoIn ours c es) ≡ dataAt o (foundBy ours c es)
+  pub data-told : (count : ℕ) → answerOf o ≡ DataDue count → length (hostWords es) ≡ count + 1 → toldOf s o (sdoIn layouts c es) ≡ Data count
+  pub data-is : (count : ℕ) → answerOf o ≡ DataDue count → length (hostWords es) ≡ count + 1 → take count (sdoIn layouts c es) ≡ dataAt o (foundBy layouts c es)

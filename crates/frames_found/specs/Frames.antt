@@ -1,12 +1,13 @@
--- Frames as the bridge reads them: by its own decoding (`decodeOurs`) and its own count of data words (`dataWords`), with no word about how they are
--- written (02 item 1, "every well-formed frame is one the writer gives"). Assumes nothing.
+-- Frames as the bridge reads them in a layout: by its own decoding (`decodeBy`) and its own count of data words (`dataWords`), with no word about how they
+-- are written (02 item 1, "every well-formed frame is one the writer gives"; item 7). `k` is the layout, `s` where the CRC starts. Assumes nothing.
 use mathlib.Core.Path.{_≡_}
 use mathlib.Core.Bool.{Bool, true, false}
 use mathlib.Core.List.{List, _∷_, _++_, []}
 use Prim.Native.Nat.{ℕ}
 use lib.ListN.{length}
-use Rattle.crc16.specs.Crc.{crcOf}
-use Rattle.command.specs.Layout.{decodeOurs}
+use Rattle.layout.specs.declared.Layout.{Layout}
+use Rattle.crc16.specs.Crc.{crcFrom}
+use Rattle.command.specs.Layout.{decodeBy}
 use Rattle.command.specs.declared.Command.{Command}
 use Rattle.command.specs.declared.Command.the-variants.{Filler, Malformed, Forward, DataRead, RegisterWrite, RegisterRead, SoftReset}
 use Rattle.state.specs.Frame.{dataWords}
@@ -24,24 +25,24 @@ isCommand (RegisterWrite crc address count) = true
 isCommand (RegisterRead crc address count) = true
 isCommand SoftReset = true
 
--- "Command word, data words, CRC word" (01 Frames)
-pub record WellFormed (frame : List ℕ) : Type 0 where
+-- "Command word, data words, CRC word" (01 Frames; 001 7.5.3)
+pub record WellFormed (k : Layout) (s : ℕ) (frame : List ℕ) : Type 0 where
   pub word : ℕ
   pub words : List ℕ
   pub crc : ℕ
   pub is : frame ≡ word ∷ (words ++ (crc ∷ []))
-  pub opens : isCommand (decodeOurs word) ≡ true
-  pub all-there : length words ≡ dataWords (decodeOurs word)
-  pub right : crc ≡ crcOf (word ∷ words)
+  pub opens : isCommand (decodeBy k word) ≡ true
+  pub all-there : length words ≡ dataWords (decodeBy k word)
+  pub right : crc ≡ crcFrom s (word ∷ words)
 
 -- what the writer writes, for these
-pub record Writes (o : Order) (words frame : List ℕ) : Type 0 where
+pub record Writes (k : Layout) (s : ℕ) (o : Order) (words frame : List ℕ) : Type 0 where
   pub within-limits : within o (length words) ≡ true
-  pub frame-is : frameOf o words ≡ frame
+  pub frame-is : frameOf k s o words ≡ frame
 
 -- "for exactly one order and words"
-pub record OneWay (frame : List ℕ) : Type 0 where
+pub record OneWay (k : Layout) (s : ℕ) (frame : List ℕ) : Type 0 where
   pub order : Order
   pub words : List ℕ
-  pub writes : Writes order words frame
-  pub only : (o : Order) (ws : List ℕ) → Writes o ws frame → (o ≡ order) × (ws ≡ words)
+  pub writes : Writes k s order words frame
+  pub only : (o : Order) (ws : List ℕ) → Writes k s o ws frame → (o ≡ order) × (ws ≡ words)

@@ -1,4 +1,4 @@
-// Frames from a shell (02 item 1): reads orders, a line each, and prints the words of each one's frame, or what its answer says. Frames and
+// Frames from a shell (02 items 1 and 7): reads orders, a line each, and prints the words of each one's frame, or what its answer says. Frames and
 // answers are `frames`' own. All lines are judged before the first is printed, so a list of frames is whole or not there.
 mod orders;
 mod out;

@@ -7,6 +7,7 @@ use frames::Named;
 use frames::Order;
 use frames::Told;
 use frames::Written;
+use layout::Layout;
 use order_lines::Fields;
 use order_lines::Items;
 use order_lines::NO_ADDRESS;
@@ -38,10 +39,23 @@ fn lacking(command: usize, fields: &Fields) -> usize {
     0
 }
 
+fn layout_of(number: usize) -> Layout {
+    match number {
+        0 => Layout::Ours,
+        _ => Layout::Makers,
+    }
+}
+
+// Where a line's CRC starts.
+fn start_of(number: usize) -> u16 {
+    command::crc_start(number == 2)
+}
+
 // 0, or why there is no frame. 4,098 words are room for any.
-fn framed(order: Order, words: &[u16], shown: bool) -> usize {
+fn framed(layout: usize, order: Order, words: &[u16], shown: bool) -> usize {
     let mut frame = [0u16; 4098];
-    match frames::write(order, words, &mut frame) {
+    let start = start_of(layout);
+    match frames::write(layout_of(layout), start, order, words, &mut frame) {
         Written::Frame(length) => {
             let n = length as usize;
             if 4098 < n {
@@ -54,13 +68,13 @@ fn framed(order: Order, words: &[u16], shown: bool) -> usize {
     }
 }
 
-// Whether the library has a frame of an order with so many words.
+// Whether the library has a frame of an order with so many words: limits know neither layout nor CRC.
 fn fits(order: Order, count: usize) -> bool
     requires { ⌜ count ≤ 1 ⌝ }
 {
     let word = [0u16; 1];
     let mut frame = [0u16; 3];
-    match frames::write(order, &word[0..count], &mut frame) {
+    match frames::write(Layout::Ours, 0, order, &word[0..count], &mut frame) {
         Written::Frame(_) => true,
         _ => false,
     }
@@ -75,10 +89,10 @@ fn refused(order: Order, right_length: bool) -> usize {
 }
 
 // 0, or why it is no answer.
-fn answered(order: Order, due: u64, words: &[u16], shown: bool) -> usize
+fn answered(layout: usize, order: Order, due: u64, words: &[u16], shown: bool) -> usize
     requires { ⌜ length (now words) ≤ 4096 ⌝ }
 {
-    match frames::read_answer(order, words) {
+    match frames::read_answer(start_of(layout), order, words) {
         Told::Status(word) => {
             let status = [word];
             print(b"STATUS", &status, 0, shown)
@@ -111,6 +125,7 @@ pub fn done(name: Name, items: Items, fields: &Fields, words: &Words, shown: boo
     let ends = (fields[0] % NONE) as u16;
     let address = (fields[1] % NONE) as u16;
     let count = (fields[2] % NONE) as u16;
+    let layout = name.layout;
     match frames::order_of((name.command % 16) as u16, ends, address, count) {
         Named::Unknown => if name.from < name.to {
             NO_NAME
@@ -118,9 +133,10 @@ pub fn done(name: Name, items: Items, fields: &Fields, words: &Words, shown: boo
             NOTHING
         },
         Named::Known(order) => if name.answer {
-            answered(order, due(name.command, fields[2]), &all[0..n], shown)
+            let due = due(name.command, fields[2]);
+            answered(layout, order, due, &all[0..n], shown)
         } else {
-            framed(order, &all[0..n], shown)
+            framed(layout, order, &all[0..n], shown)
         },
     }
 }

@@ -3,10 +3,11 @@ use mathlib.Core.Bool.{false}
 use Prim.Native.Nat.{ℕ}
 use lib.Dec.{ltb, eqb}
 use Rattle.base.specs.Pick.{pick}
-use Rattle.command.specs.Layouts.{Layout}
+use Rattle.command.specs.Layouts.{Layouts}
 use Rattle.command.specs.declared.Command.{Command}
 use Rattle.command.specs.declared.Command.the-variants.{Filler, Malformed, Forward, DataRead, RegisterWrite, RegisterRead, SoftReset}
 use Rattle.registers.specs.Registers.{blocking}
+use Rattle.registers.specs.Spictrl.{isXmodem}
 use Rattle.state.specs.Frame.{fwd, progress, dataWords}
 use Rattle.state.specs.declared.Bridge.{Bridge}
 use Rattle.state.specs.declared.Note.the-variants.{Done, MalformedWord, Discarded}
@@ -57,18 +58,18 @@ dataWord b (RegisterRead crc address count) at w = plain b Idle Done
 dataWord b SoftReset at w = plain b Idle Done
 
 -- "Command word, data words, CRC word" (01 Frames): a data word while one is due, then the CRC word
-abbrev pub collected : Layout → Bridge → Command → Progress → ℕ → Plan
+abbrev pub collected : Layouts → Bridge → Command → Progress → ℕ → Plan
 collected l b command at w =
     pick (ltb (at .got) (dataWords command)) (dataWord b command (summed (l .crcStep (at .crc) w) at) w)
     (crcDue l b command (at .mine) (at .blocked) (eqb w (at .crc)))
 
 -- 3. A host word, by phase; x is the oldest word of RX.
-unfoldable pub plannedIn : Layout → Bridge → Phase → ℕ → ℕ → Plan
-plannedIn l b Idle w x = opened b (l .decode w) (l .crcStep (l .crcStart) w)
+unfoldable pub plannedIn : Layouts → Bridge → Phase → ℕ → ℕ → Plan
+plannedIn l b Idle w x = opened b (l .decode (b .control .regs .layout) w) (l .crcStep (l .crcStart (isXmodem (b .control .regs))) w)
 plannedIn l b (Collecting command got sum mine released blocked) w x =
     collected l b command (progress got sum mine released blocked) w
 plannedIn l b (Answering reply sum) w x = answered l b reply sum x
 plannedIn l b Discarding w x = plain b Discarding Discarded
 
-unfoldable pub planned : Layout → Bridge → ℕ → ℕ → Plan
+unfoldable pub planned : Layouts → Bridge → ℕ → ℕ → Plan
 planned l b w x = plannedIn l b (b .frame .phase) w x

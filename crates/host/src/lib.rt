@@ -2,7 +2,7 @@
 ghost use mathlib.Core.Path.{_≡_};
 ghost use mathlib.Core.Bool.{true, false};
 ghost use Prim.Native.Nat.{_+_, _≤_, _<_};
-ghost use Rattle.command.specs.Layouts.{ours};
+ghost use Rattle.command.specs.Layouts.{layouts};
 ghost use Rattle.state.specs.Facts.{SendFit, HostFit};
 ghost use Rattle.state.specs.Frame.{dataWords, collectSound};
 ghost use Rattle.host.specs.Frames.{collects as collectsOf, opened as openedOf, dataWord, collected as collectedOf, planned as plannedOf};
@@ -141,7 +141,7 @@ fn data_word(bridge: Bridge, command: Command, at: Progress, word: u16) -> Plan
 // A data word or the CRC word.
 fn collected(bridge: Bridge, command: Command, at: Progress, word: u16) -> Plan
     requires { ⌜ (SendFit (bridge .sending)) × (at .mine ≤ bridge .sending .tx .count) × (collectSound command at ≡ true) ⌝ }
-    ensures { λ r. ⌜ r ≡ collectedOf ours bridge command at word ⌝ }
+    ensures { λ r. ⌜ r ≡ collectedOf layouts bridge command at word ⌝ }
 {
     if state::is_due(command, at.got) {
         let crc = crc16::crc_word(at.crc, word);
@@ -155,15 +155,17 @@ fn collected(bridge: Bridge, command: Command, at: Progress, word: u16) -> Plan
 // A host word; `rx_oldest` is the oldest word of RX.
 pub fn planned(bridge: Bridge, word: u16, rx_oldest: u16) -> Plan
     requires { ⌜ HostFit bridge ⌝ }
-    ensures { λ r. ⌜ r ≡ plannedOf ours bridge word «rx_oldest» ⌝ }
+    ensures { λ r. ⌜ r ≡ plannedOf layouts bridge word «rx_oldest» ⌝ }
 {
+    let regs = bridge.control.regs;
+    let layout = regs.layout;
     let frame = bridge.frame;
     let phase = frame.phase;
     match phase {
         Phase::Idle => opened(
             bridge,
-            command::decode(word),
-            crc16::crc_word(crc16::START, word),
+            command::decode(layout, word),
+            crc16::crc_word(command::crc_start(registers::is_xmodem(regs)), word),
         ),
         Phase::Collecting {
             command,

@@ -7,7 +7,7 @@ use Prim.Native.Nat.{ℕ, zero, suc, _+_}
 use lib.Dec.{ltb, eqb}
 use Rattle.base.specs.Bits.{bit}
 use Rattle.base.specs.Pick.{pick, pick-keeps}
-use Rattle.command.specs.Layouts.{Layout}
+use Rattle.command.specs.Layouts.{Layouts}
 use Rattle.command.specs.declared.Command.{Command}
 use Rattle.command.specs.declared.Command.the-variants.{Filler, Malformed, Forward, DataRead, RegisterWrite, RegisterRead, SoftReset}
 use Rattle.forwards.specs.Forward.{guard, faulted, clears, forwarded, forwardWord, forwardBegun}
@@ -124,6 +124,7 @@ pub record Rises (b : Bridge) (p : Plan) : Type 0 where
   pub marked : (blocking (p .control .flags) && isUnmarked (p .phase)) ≡ false
   pub hears : rxff (p .control .flags) ≡ true → (rxff (b .control .flags) || stops (p .receive)) ≡ true
   pub resets : isReset (p .deed) ≡ true → p .receive ≡ ResetRx
+  pub layout : p .control .regs .layout ≡ b .control .regs .layout
 
 -- 3. What raises neither a blocking flag nor an RX flag.
 
@@ -132,9 +133,10 @@ record Tame (c d : Control) : Type 0 where
   number : Numbered (c .flags) (d .flags)
   blocks : blocking (d .flags) ≡ true → blocking (c .flags) ≡ true
   hears : rxff (d .flags) ≡ true → rxff (c .flags) ≡ true
+  layout : d .regs .layout ≡ c .regs .layout
 
 tame-same : (c : Control) → Tame c c
-tame-same c = record { otp = λ h. h; number = same-number refl refl; blocks = λ h. h; hears = λ h. h }
+tame-same c = record { otp = λ h. h; number = same-number refl refl; blocks = λ h. h; hears = λ h. h; layout = refl }
 
 tame-then : (c d e : Control) → Tame c d → Tame d e → Tame c e
 tame-then c d e s t = record {
@@ -142,10 +144,11 @@ tame-then c d e s t = record {
   number = numbered-then (s .number) (t .number);
   blocks = λ h. s .blocks (t .blocks h);
   hears = λ h. s .hears (t .hears h);
+  layout = t .layout ∙ s .layout;
 }
 
-tame-regs : (c : Control) (r : Regs) → Tame c (withRegs c r)
-tame-regs c r = record { otp = λ h. h; number = same-number refl refl; blocks = λ h. h; hears = λ h. h }
+tame-regs : (c : Control) (r : Regs) → r .layout ≡ c .regs .layout → Tame c (withRegs c r)
+tame-regs c r e = record { otp = λ h. h; number = same-number refl refl; blocks = λ h. h; hears = λ h. h; layout = e }
 
 -- a flag that is neither
 tame-raised : (c : Control) (n : Flag) → blocking (raised (c .flags) n) ≡ blocking (c .flags) → rxff (raised (c .flags) n) ≡ rxff (c .flags)
@@ -155,6 +158,7 @@ tame-raised c n e f = record {
   number = unfold raised in same-number refl refl;
   blocks = λ h. sym e ∙ h;
   hears = λ h. sym f ∙ h;
+  layout = refl;
 }
 
 -- "Bad OTP stays in INIT"
@@ -171,19 +175,20 @@ Tamely c w = Tame c (w .control)
 write-tame : (c : Control) (busy : Bool) (a v : ℕ) → Tame c (writeOf c busy a v .control)
 unfolding writeOf writeMasked writeCcsictrl writeTxfflvl writeRxfflvl writeStatus cleared raised blocking
 write-tame c busy zero v = tame-same c
-write-tame c busy (suc zero) v = tame-regs c _
-write-tame c busy (suc (suc zero)) v = pick-keeps (Tamely c) busy _ _ (λ h. tame-raised c RegWrite refl refl) (λ h. tame-regs c _)
-write-tame c busy (suc (suc (suc zero))) v = tame-regs c _
-write-tame c busy (suc (suc (suc (suc zero)))) v = tame-regs c _
+write-tame c busy (suc zero) v = tame-regs c _ refl
+write-tame c busy (suc (suc zero)) v = pick-keeps (Tamely c) busy _ _ (λ h. tame-raised c RegWrite refl refl) (λ h. tame-regs c _ refl)
+write-tame c busy (suc (suc (suc zero))) v = tame-regs c _ refl
+write-tame c busy (suc (suc (suc (suc zero)))) v = tame-regs c _ refl
 write-tame c busy (suc (suc (suc (suc (suc zero))))) v = record {
   otp = λ h. mode-otp (c .mode) (c .flags .otp) _ h;
   number = same-number refl refl;
   blocks = λ h. h;
   hears = λ h. h;
+  layout = refl;
 }
-write-tame c busy (suc (suc (suc (suc (suc (suc zero)))))) v = tame-regs c _
+write-tame c busy (suc (suc (suc (suc (suc (suc zero)))))) v = tame-regs c _ refl
 write-tame c busy (suc (suc (suc (suc (suc (suc (suc zero))))))) v =
-    pick-keeps (Tamely c) _ _ _ (λ h. record { otp = λ e. e; number = no-number refl refl; blocks = λ e. cc; hears = λ e. cc }) (λ h. tame-same c)
+    pick-keeps (Tamely c) _ _ _ (λ h. record { otp = λ e. e; number = no-number refl refl; blocks = λ e. cc; hears = λ e. cc; layout = refl }) (λ h. tame-same c)
 write-tame c busy (suc (suc (suc (suc (suc (suc (suc (suc a)))))))) v = tame-same c
 
 write-all-tame : (c : Control) (e : Effects) (busy : Bool) (address : ℕ) (vs : List ℕ) → Tame c (e .control)
@@ -201,18 +206,19 @@ record Pays (c : Control) (g : Granted) : Type 0 where
   blocks : blocking (faulted c (g .note) .flags) ≡ true → (blocking (c .flags) || clears (g .deed)) ≡ true
   hears : rxff (faulted c (g .note) .flags) ≡ true → rxff (c .flags) ≡ true
   stands : isReset (g .deed) ≡ false
+  layout : faulted c (g .note) .regs .layout ≡ c .regs .layout
 
 guard-pays : (c : Control) (blocked : Bool) (count : ℕ) (q : Queue) (w : Wish) → Pays c (guard blocked count q w)
 unfolding guard faulted raised clears isReset
 guard-pays c blocked count q w =
-    pick-keeps (Pays c) _ _ _ (λ h. record { otp = λ e. e; number = same-number refl refl; blocks = λ e. or-left _ _ e; hears = λ e. e; stands = refl })
+    pick-keeps (Pays c) _ _ _ (λ h. record { otp = λ e. e; number = same-number refl refl; blocks = λ e. or-left _ _ e; hears = λ e. e; stands = refl; layout = refl })
     (λ h. pick-keeps (Pays c) _ _ _
-    (λ k. record { otp = λ e. e; number = same-number refl refl; blocks = λ e. or-true (blocking (c .flags)); hears = λ e. e; stands = refl })
+    (λ k. record { otp = λ e. e; number = same-number refl refl; blocks = λ e. or-true (blocking (c .flags)); hears = λ e. e; stands = refl; layout = refl })
     (λ k. pick-keeps (Pays c) _ _ _
     (λ r. pick-keeps (Pays c) _ _ _
-    (λ u. record { otp = λ e. e; number = same-number refl refl; blocks = λ e. or-true (blocking (c .flags)); hears = λ e. e; stands = refl })
-    (λ u. record { otp = λ e. e; number = same-number refl refl; blocks = λ e. or-left _ _ e; hears = λ e. e; stands = refl }))
-    (λ r. record { otp = λ e. e; number = same-number refl refl; blocks = λ e. or-left _ _ e; hears = λ e. e; stands = refl })))
+    (λ u. record { otp = λ e. e; number = same-number refl refl; blocks = λ e. or-true (blocking (c .flags)); hears = λ e. e; stands = refl; layout = refl })
+    (λ u. record { otp = λ e. e; number = same-number refl refl; blocks = λ e. or-left _ _ e; hears = λ e. e; stands = refl; layout = refl }))
+    (λ r. record { otp = λ e. e; number = same-number refl refl; blocks = λ e. or-left _ _ e; hears = λ e. e; stands = refl; layout = refl })))
 
 -- 5. The plans of a host word.
 module _ (b : Bridge) (o : otpSound (b .control .mode) (b .control .flags .otp) ≡ true) where
@@ -224,6 +230,7 @@ module _ (b : Bridge) (o : otpSound (b .control .mode) (b .control .flags .otp) 
     marked = and-none (blocking (p .control .flags)) _ u;
     hears = λ h. or-left _ _ (t .hears h);
     resets = r;
+    layout = t .layout;
   }
 
   quiet-rises : (p : Plan) → Tame (b .control) (p .control) → isUnmarked (p .phase) ≡ false → isReset (p .deed) ≡ false → Rises b p
@@ -244,6 +251,7 @@ module _ (b : Bridge) (o : otpSound (b .control .mode) (b .control .flags .otp) 
     marked = go (blocking (faulted (b .control) (g .note) .flags)) (blocking (b .control .flags)) (clears (g .deed)) (y .blocks) m;
     hears = λ h. or-left _ _ (y .hears h);
     resets = λ h. cc (y .stands);
+    layout = y .layout;
   }
     where
       go : (after before clear : Bool) → (after ≡ true → (before || clear) ≡ true) → (before && not (at .blocked)) ≡ false
@@ -305,6 +313,7 @@ module _ (b : Bridge) (o : otpSound (b .control .mode) (b .control .flags .otp) 
         marked = and-none (blocking (forwardClosed b crc words ends reads blocked .control .flags)) _ refl;
         hears = λ h. or-left _ _ (y .hears h);
         resets = λ h. cc (y .stands);
+        layout = y .layout;
       }
 
   registers-closed-rises : (crc : Bool) (address count : ℕ) → Rises b (registersClosed b crc address count)
@@ -314,7 +323,7 @@ module _ (b : Bridge) (o : otpSound (b .control .mode) (b .control .flags .otp) 
       (λ h. effected-rises Idle _ true refl (write-all-tame (b .control) (noEffects (b .control)) _ address _ (tame-same _)))
       (λ h. quiet-rises _ (tame-same _) refl refl)
 
-  read-closed-rises : (l : Layout) (crc right : Bool) (reply : Reply) → Rises b (readClosed l b crc right reply)
+  read-closed-rises : (l : Layouts) (crc right : Bool) (reply : Reply) → Rises b (readClosed l b crc right reply)
   unfolding readClosed isUnmarked isReset raised blocking
   read-closed-rises l crc right reply =
       pick-keeps (Rises b) right _ _ (λ h. plain-rises _ _ refl)
@@ -327,7 +336,7 @@ module _ (b : Bridge) (o : otpSound (b .control .mode) (b .control .flags .otp) 
       (λ h. tame-rises _ (tame-same _) refl (λ e. refl))
       (λ h. quiet-rises _ (tame-raised _ Srst refl refl) refl refl)
 
-  crc-due-rises : (l : Layout) (c : Command) (mine : ℕ) (blocked right : Bool) → Rises b (crcDue l b c mine blocked right)
+  crc-due-rises : (l : Layouts) (c : Command) (mine : ℕ) (blocked right : Bool) → Rises b (crcDue l b c mine blocked right)
   unfolding crcDue isUnmarked
   crc-due-rises l Filler mine blocked right = plain-rises _ _ refl
   crc-due-rises l Malformed mine blocked right = plain-rises _ _ refl
@@ -349,10 +358,11 @@ module _ (b : Bridge) (o : otpSound (b .control .mode) (b .control .flags .otp) 
     marked = and-none (blocking (b .control .flags)) _ u;
     hears = λ e. or-true (rxff (b .control .flags));
     resets = λ e. cc;
+    layout = refl;
   }
 
   -- the answer
-  answered-rises : (l : Layout) (reply : Reply) (sum x : ℕ) → Rises b (answered l b reply sum x)
+  answered-rises : (l : Layouts) (reply : Reply) (sum x : ℕ) → Rises b (answered l b reply sum x)
   unfolding answered dataAnswered registerAnswered answerWith isUnmarked isReset
   answered-rises l (Status v) sum x = quiet-rises _ (tame-same _) refl refl
   answered-rises l (Data left) sum x =
@@ -360,7 +370,7 @@ module _ (b : Bridge) (o : otpSound (b .control .mode) (b .control .flags .otp) 
   answered-rises l (Registers address left) sum x = quiet-rises _ (tame-same _) refl refl
   answered-rises l Check sum x = quiet-rises _ (tame-same _) refl refl
 
-  planned-in-rises : (l : Layout) (p : Phase) (w x : ℕ) → (blocking (b .control .flags) && isUnmarked p) ≡ false → Rises b (plannedIn l b p w x)
+  planned-in-rises : (l : Layouts) (p : Phase) (w x : ℕ) → (blocking (b .control .flags) && isUnmarked p) ≡ false → Rises b (plannedIn l b p w x)
   unfolding plannedIn isUnmarked
   planned-in-rises l Idle w x m = opened-rises _ _
   planned-in-rises l (Collecting command got sum mine released blocked) w x m =
@@ -384,7 +394,7 @@ module _ (b : Bridge) (o : otpSound (b .control .mode) (b .control .flags .otp) 
   released-in-rises (Answering reply sum) = plain-rises _ _ refl
   released-in-rises Discarding = plain-rises _ _ refl
 
-pub planned-rises : (l : Layout) (b : Bridge) (w x : ℕ) → ControlRules (b .control) (b .receiving .rx .count) (b .frame .phase)
+pub planned-rises : (l : Layouts) (b : Bridge) (w x : ℕ) → ControlRules (b .control) (b .receiving .rx .count) (b .frame .phase)
     → Rises b (planned l b w x)
 unfolding planned
 planned-rises l b w x r = planned-in-rises b (r .otp) l (b .frame .phase) w x (r .marked)
@@ -396,17 +406,17 @@ released-rises b r = released-in-rises b (r .otp) (b .frame .phase)
 -- 6. A plan carried out.
 
 -- STATUS's answer is no open forward
-concluded-marked : (l : Layout) (status blocks : Bool) (c : Control) (p : Phase) → (blocks && isUnmarked p) ≡ false
-    → (blocks && isUnmarked (concluded l status c p)) ≡ false
+concluded-marked : (l : Layouts) (xmodem status blocks : Bool) (c : Control) (p : Phase) → (blocks && isUnmarked p) ≡ false
+    → (blocks && isUnmarked (concluded l xmodem status c p)) ≡ false
 unfolding concluded isUnmarked
-concluded-marked l status blocks c p m =
+concluded-marked l xmodem status blocks c p m =
     pick-keeps (λ (q : Phase). (blocks && isUnmarked q) ≡ false) status _ p
     (λ h. pick-keeps (λ (q : Phase). (blocks && isUnmarked q) ≡ false) _ Idle _ (λ k. and-none blocks _ refl) (λ k. and-none blocks _ refl))
     (λ h. m)
 
-pub performed-control : (l : Layout) (b : Bridge) (clock : Clock) (p : Plan) → badWordSound (b .control .flags) ≡ true → Rises b p
+pub performed-control : (l : Layouts) (b : Bridge) (clock : Clock) (p : Plan) → badWordSound (b .control .flags) ≡ true → Rises b p
     → ControlRules (performed l b clock p .control) (performed l b clock p .receiving .rx .count) (performed l b clock p .frame .phase)
 unfolding performed
 performed-control l b clock p n r =
     settled-control (p .control) _ false _ (r .otp) (numbered-sound (r .number) n)
-    (concluded-marked l (p .status) (blocking (p .control .flags)) _ (p .phase) (r .marked))
+    (concluded-marked l (b .frame .xmodem) (p .status) (blocking (p .control .flags)) _ (p .phase) (r .marked))

@@ -3,7 +3,7 @@
 use mathlib.Core.Bool.{Bool, true}
 use Prim.Native.Nat.{ℕ, _≤_}
 use Rattle.base.specs.Pick.{pick, pick-keeps}
-use Rattle.command.specs.Layouts.{Layout}
+use Rattle.command.specs.Layouts.{Layouts}
 use Rattle.command.specs.declared.Command.{Command}
 use Rattle.command.specs.declared.Command.the-variants.{Filler, Malformed, Forward, DataRead, RegisterWrite, RegisterRead, SoftReset}
 use Rattle.forwards.specs.Forward.{guard, forwarded, forwardWord, forwardBegun}
@@ -77,7 +77,7 @@ module _ (b : Bridge) where
   unfolding forwardClosed
   forward-closed-doable crc words ends reads blocked = guard-doable (b .sending) _ _ _
 
-  read-closed-doable : (l : Layout) (crc right : Bool) (reply : Reply) → Plans (b .sending) (readClosed l b crc right reply)
+  read-closed-doable : (l : Layouts) (crc right : Bool) (reply : Reply) → Plans (b .sending) (readClosed l b crc right reply)
   unfolding readClosed
   read-closed-doable l crc right reply =
       pick-keeps (Plans (b .sending)) right _ _ (λ h. tt) (λ h. pick-keeps (Plans (b .sending)) crc _ _ (λ c. tt) (λ c. tt))
@@ -90,7 +90,7 @@ module _ (b : Bridge) where
   unfolding resetClosed
   reset-closed-doable = pick-keeps (Plans (b .sending)) _ _ _ (λ h. tt) (λ h. tt)
 
-  crc-due-doable : (l : Layout) (c : Command) (mine : ℕ) (blocked right : Bool) → mine ≤ b .sending .tx .count
+  crc-due-doable : (l : Layouts) (c : Command) (mine : ℕ) (blocked right : Bool) → mine ≤ b .sending .tx .count
       → Plans (b .sending) (crcDue l b c mine blocked right)
   unfolding crcDue
   crc-due-doable l Filler mine blocked right h = tt
@@ -104,14 +104,14 @@ module _ (b : Bridge) where
   crc-due-doable l SoftReset mine blocked right h =
       pick-keeps (Plans (b .sending)) right _ _ (λ k. reset-closed-doable) (λ k. wrong-doable true mine h)
 
-  answered-doable : (l : Layout) (reply : Reply) (sum x : ℕ) → Plans (b .sending) (answered l b reply sum x)
+  answered-doable : (l : Layouts) (reply : Reply) (sum x : ℕ) → Plans (b .sending) (answered l b reply sum x)
   unfolding answered dataAnswered registerAnswered answerWith
   answered-doable l (Status s) sum x = tt
   answered-doable l (Data left) sum x = pick-keeps (Plans (b .sending)) _ _ _ (λ h. tt) (λ h. tt)
   answered-doable l (Registers address left) sum x = tt
   answered-doable l Check sum x = tt
 
-  planned-in-doable : (l : Layout) (p : Phase) (w x : ℕ) → mineOf p ≤ b .sending .tx .count → Plans (b .sending) (plannedIn l b p w x)
+  planned-in-doable : (l : Layouts) (p : Phase) (w x : ℕ) → mineOf p ≤ b .sending .tx .count → Plans (b .sending) (plannedIn l b p w x)
   unfolding plannedIn mineOf
   planned-in-doable l Idle w x h = opened-doable _ _
   planned-in-doable l (Collecting command got sum mine released blocked) w x h =
@@ -131,7 +131,7 @@ module _ (b : Bridge) where
   released-in-doable (Answering reply sum) h = tt
   released-in-doable Discarding h = tt
 
-pub doable-planned : (l : Layout) (b : Bridge) → HostFit b → (w x : ℕ)
+pub doable-planned : (l : Layouts) (b : Bridge) → HostFit b → (w x : ℕ)
     → Doable (stored (b .sending) (planned l b w x .store)) (planned l b w x .deed)
 unfolding planned
 doable-planned l b f w x = planned-in-doable b l (b .frame .phase) w x (f .mine)

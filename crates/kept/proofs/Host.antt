@@ -7,7 +7,7 @@ use native.Mathlib.Omega.{arith}
 use lib.Dec.{ltb, leb, eqb}
 use borrow.Author.Tests.{ltb-true, ltb-false, leb-true, leb-false, eqb-true, eqb-false, not-true, not-false, lt-ltb, le-ltb, le-leb}
 use Rattle.base.specs.Pick.{pick, pick-keeps, and-l, and-r, and-both}
-use Rattle.command.specs.Layouts.{Layout}
+use Rattle.command.specs.Layouts.{Layouts}
 use Rattle.command.specs.declared.Command.{Command}
 use Rattle.command.specs.declared.Command.the-variants.{Filler, Malformed, Forward, DataRead, RegisterWrite, RegisterRead, SoftReset}
 use Rattle.forwards.specs.Forward.{faulted, forwarded, forwardWord, forwardBegun}
@@ -313,11 +313,11 @@ module _ (b : Bridge) (g : regsSound (b .control .regs) ≡ true) where
       (λ h. effected-rules Idle _ true r bare-idle (write-all-sound (noEffects (b .control)) _ address _ g) (λ e. refl))
       (λ h. record { leaves = stays (b .sending) Idle r bare-idle; regs = g; ending = λ e. refl })
 
-  read-closed-rules : (l : Layout) (crc right : Bool) (reply : Reply) → SendRules (b .sending) 0 0 → replySound reply ≡ true
+  read-closed-rules : (l : Layouts) (crc right : Bool) (reply : Reply) → SendRules (b .sending) 0 0 → replySound reply ≡ true
       → PlanRules b (readClosed l b crc right reply)
   unfolding readClosed
   read-closed-rules l crc right reply r s =
-      let answers : Leaves (b .sending) Keep Leave (Answering reply (l .crcStart)) = stays (b .sending) _ r (bare-answer reply _ s) in
+      let answers : Leaves (b .sending) Keep Leave (Answering reply (l .crcStart (b .frame .xmodem))) = stays (b .sending) _ r (bare-answer reply _ s) in
       pick-keeps (PlanRules b) right _ _ (λ h. record { leaves = answers; regs = g; ending = λ e. cc })
       (λ h. pick-keeps (PlanRules b) crc _ _ (λ c. record { leaves = stays (b .sending) Idle r bare-idle; regs = g; ending = λ e. cc })
       (λ c. record { leaves = answers; regs = g; ending = λ e. cc }))
@@ -332,7 +332,7 @@ module _ (b : Bridge) (g : regsSound (b .control .regs) ≡ true) where
       pick-keeps (PlanRules b) _ _ _ (λ h. record { leaves = reset-rules r h; regs = g; ending = λ e. refl })
       (λ h. record { leaves = stays (b .sending) Idle r bare-idle; regs = g; ending = λ e. refl })
 
-  crc-due-rules : (l : Layout) (c : Command) (got sum mine : ℕ) (released blocked right : Bool)
+  crc-due-rules : (l : Layouts) (c : Command) (got sum mine : ℕ) (released blocked right : Bool)
       → SendRules (b .sending) (owedBy c got released blocked) mine → collectSound c (progress got sum mine released blocked) ≡ true
       → dataWords c ≤ got → PlanRules b (crcDue l b c mine blocked right)
   unfolding crcDue collectSound replySound
@@ -364,7 +364,7 @@ module _ (b : Bridge) (g : regsSound (b .control .regs) ≡ true) where
           pick-keeps (PlanRules b) right _ _ (λ e. reset-closed-rules (bare m k)) (λ e. wrong-rules true mine k (λ c. eqb-true mine 0 m))
 
   -- 6. The rules of an answer.
-  answered-rules : (l : Layout) (reply : Reply) (sum x : ℕ) → SendRules (b .sending) 0 0 → replySound reply ≡ true → PlanRules b (answered l b reply sum x)
+  answered-rules : (l : Layouts) (reply : Reply) (sum x : ℕ) → SendRules (b .sending) 0 0 → replySound reply ≡ true → PlanRules b (answered l b reply sum x)
   unfolding answered dataAnswered registerAnswered answerWith replySound
   answered-rules l (Status v) sum x r s = record {
     leaves = stays (b .sending) _ r (bare-answer Check _ (unfold replySound in refl));
@@ -389,10 +389,10 @@ module _ (b : Bridge) (g : regsSound (b .control .regs) ≡ true) where
   answered-rules l Check sum x r s = record { leaves = stays (b .sending) Idle r bare-idle; regs = g; ending = λ e. cc }
 
   -- 7. A host word, and a release of chip select, by phase.
-  planned-rules : (l : Layout) → LayoutFit l → (p : Phase) (w x : ℕ) → SendRules (b .sending) (toCome p) (mineOf p) → phaseSound p ≡ true
+  planned-rules : (l : Layouts) → LayoutFit l → (p : Phase) (w x : ℕ) → SendRules (b .sending) (toCome p) (mineOf p) → phaseSound p ≡ true
       → PlanRules b (plannedIn l b p w x)
   unfolding plannedIn toCome mineOf phaseSound
-  planned-rules l f Idle w x r s = opened-rules (l .decode w) _ (f w) r
+  planned-rules l f Idle w x r s = opened-rules (l .decode (b .control .regs .layout) w) _ (f _ w) r
   planned-rules l f (Collecting command got sum mine released blocked) w x r s =
       pick-keeps (PlanRules b) _ _ _ (λ h. data-word-rules command _ w r (summed-sound command _ _ s) (ltb-true _ _ h))
       (λ h. crc-due-rules l command got sum mine released blocked _ r s (ltb-false _ _ h))
@@ -421,13 +421,13 @@ module _ (b : Bridge) (g : regsSound (b .control .regs) ≡ true) where
   released-rules (Answering reply sum) r s = record { leaves = stays (b .sending) Idle r bare-idle; regs = g; ending = λ e. cc }
   released-rules Discarding r s = record { leaves = stays (b .sending) Idle r bare-idle; regs = g; ending = λ e. cc }
 
-pub host-keeps : (l : Layout) → LayoutFit l → (b : Bridge) (clock : Clock) (w x : ℕ) → BridgeRules b
+pub host-keeps : (l : Layouts) → LayoutFit l → (b : Bridge) (clock : Clock) (w x : ℕ) → BridgeRules b
     → BridgeRules (performed l b clock (planned l b w x))
 unfolding planned
 host-keeps l f b clock w x r =
     performed-keeps l b clock _ r (planned-rules b (r .regs) l f (b .frame .phase) w x (r .sending) (r .phase))
     (unfold planned in planned-rises l b w x (r .control))
 
-pub release-keeps : (l : Layout) (b : Bridge) (clock : Clock) → BridgeRules b → BridgeRules (performed l b clock (releasedIn b (b .frame .phase)))
+pub release-keeps : (l : Layouts) (b : Bridge) (clock : Clock) → BridgeRules b → BridgeRules (performed l b clock (releasedIn b (b .frame .phase)))
 release-keeps l b clock r =
     performed-keeps l b clock _ r (released-rules b (r .regs) (b .frame .phase) (r .sending) (r .phase)) (released-rises b (r .control))

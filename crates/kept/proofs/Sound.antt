@@ -67,6 +67,7 @@ sound-facts b s l =
       marks = f .marks;
       control = f .control;
       regs = f .regs;
+      algorithm = f .algorithm;
     }
 
 pub facts-sound : (b : Bridge) → BridgeRules b → sound b ≡ true
@@ -83,4 +84,5 @@ facts-sound b r =
       marks = r .marks;
       phase = r .phase;
       ledger = record { sum = r .sending .sum; last = r .sending .room };
+      algorithm = r .algorithm;
     })

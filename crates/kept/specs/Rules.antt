@@ -9,6 +9,7 @@ use Rattle.registers.specs.Registers.{regsSound}
 use Rattle.rules.specs.Facts.{Standing, SenderFit, ControlRules, allSome}
 use Rattle.line_rules.specs.Line.{earSound, marksSound}
 use Rattle.rules.specs.Sound.{lastLeft}
+use Rattle.frame_rules.specs.Frames.{algorithmSound}
 use Rattle.state.specs.Facts.{RingFit, QueueFit}
 use Rattle.state.specs.Frame.{mineOf, toCome, phaseSound}
 use Rattle.state.specs.Queue.{places, waiting, wordsOf}
@@ -43,3 +44,4 @@ pub record BridgeRules (b : Bridge) : Type 0 where
   pub marks : marksSound (b .receiving .reader .ear) (b .receiving .reader) (b .sending .queue) (b .control .flags) ≡ true
   pub control : ControlRules (b .control) (b .receiving .rx .count) (b .frame .phase)
   pub regs : regsSound (b .control .regs) ≡ true
+  pub algorithm : algorithmSound (b .control .regs .layout) (b .frame .xmodem) ≡ true

@@ -2,12 +2,12 @@
 use mathlib.Core.Path.{_≡_, refl, sym, _∙_, ap, subst}
 use mathlib.Core.Bool.{Bool, true}
 use mathlib.Core.List.{List}
-use Prim.Native.Nat.{ℕ, suc, _+_, _-_, _*_, _<_, _≤_}
+use Prim.Native.Nat.{ℕ, suc, _+_, _-_, _<_, _≤_}
 use native.Mathlib.Omega.{arith}
-use lib.ListN.{length, length-set, getD}
-use Rattle.command.specs.Layouts.{ours}
+use lib.ListN.{length, length-set}
+use Rattle.command.specs.Layouts.{layouts}
 use Rattle.rules.proofs.Facts.{host-fit}
-use Rattle.state.specs.Facts.{RingFit, HostFit}
+use Rattle.state.specs.Facts.{HostFit}
 use Rattle.state.specs.Notes.{noteNumber}
 use Rattle.state.specs.declared.Bridge.{Bridge}
 use Rattle.events.specs.Turn.{Out, out, turn}
@@ -17,7 +17,7 @@ use Rattle.bridge.specs.Fit.{Fit, Kept}
 use Rattle.bridge.proofs.Keeping.{turn-keeps}
 use Rattle.listing.specs.Records.{isEvent, eventAt}
 use Rattle.listing.specs.Results.{put}
-use Rattle.listing.specs.Run.{Moment, moment, putAnswer, listOf, Listable, Lent, Gone}
+use Rattle.listing.specs.Run.{Moment, moment, putAnswer, listOf, Listable, Ahead, Lent, Gone}
 use Rattle.listing.proofs.Records.{each-event}
 
 pub put-length : (s : List ℕ) (k note sdo : ℕ) (sout : Bool) → length (put s k note sdo sout) ≡ length s
@@ -35,18 +35,13 @@ begins records many from b tx rx s l = record {
   size = refl;
 }
 
--- what a part of the list is lent
-module _ (records : List ℕ) (many from : ℕ) (b : Bridge) (tx rx s : List ℕ) (l : Lent records many from b tx rx s) where
-  pub first-event : isEvent records from ≡ true
-  first-event = each-event records many (l .list .events) from (l .one)
-
-  pub first-byte : from * 3 < length records
-  first-byte = omega (arith, l .list .bytes, l .one)
-
 module _ (records : List ℕ) (many from : ℕ) (b₀ : Bridge) (tx₀ rx₀ s₀ : List ℕ) (k : ℕ) (b : Bridge) (tx rx s : List ℕ)
     (v : Gone records many from b₀ tx₀ rx₀ s₀ k b tx rx s) where
   pub host-now : HostFit b
   host-now = host-fit b (v .fit .ready .rules)
+
+  pub ahead : k < many → Ahead records s k many
+  ahead h = record { list = v .list; one = h }
 
   pub lent-now : k < many → Lent records many k b tx rx s
   lent-now h = record { list = v .list; fit = v .fit; one = h }
@@ -69,18 +64,18 @@ module _ (records : List ℕ) (many from : ℕ) (b₀ : Bridge) (tx₀ rx₀ s�
   }
 
   -- one event more
-  module _ (h : k < many) (e : Event) (i : e ≡ eventAt records k) (a : Answer) (t r u : List ℕ) (o : out a t r ≡ turn ours b tx rx e)
+  module _ (h : k < many) (e : Event) (i : e ≡ eventAt records k) (a : Answer) (t r u : List ℕ) (o : out a t r ≡ turn layouts b tx rx e)
       (w : u ≡ put s k (noteNumber (a .note)) (a .sdo) (a .sout)) where
     abbrev on : Out → Moment
     on x = listOf records (many - (k + 1)) (k + 1) (x .answer .state) (x .tx) (x .rx) (putAnswer s k (x .answer))
 
-    one : on (turn ours b tx rx (eventAt records k)) ≡ listOf records (many - k) k b tx rx s
+    one : on (turn layouts b tx rx (eventAt records k)) ≡ listOf records (many - k) k b tx rx s
     unfolding listOf
     one = let z : many - k ≡ suc (many - (k + 1)) = omega arith in sym (ap (λ (m : ℕ). listOf records m k b tx rx s) z)
 
     pub again : Gone records many from b₀ tx₀ rx₀ s₀ (k + 1) (a .state) t r u
     again = record {
-      whole = rw w (ap on (o ∙ ap (turn ours b tx rx) i) ∙ one ∙ v .whole);
+      whole = rw w (ap on (o ∙ ap (turn layouts b tx rx) i) ∙ one ∙ v .whole);
       fit = subst Kept (sym o) (turn-keeps b tx rx e (v .fit));
       least = omega (arith, v .least);
       within = omega arith;

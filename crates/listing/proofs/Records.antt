@@ -15,23 +15,27 @@ use Rattle.state.specs.Notes.{noteNumber}
 use Rattle.state.specs.declared.Note.{Note}
 use Rattle.state.specs.declared.Note.the-variants.{Done, WrongStores, BrokenRecord, MalformedWord, Discarded, Blocked, CrcRefused, CrcWrong, TxFull, QueueFull, LineBusy, ResetRefused, CutShort, TxEmpty, RxFull, RxEmpty}
 use Rattle.events.specs.declared.Event.{Event}
-use Rattle.events.specs.declared.Event.the-variants.{Power, Word, Release, Tick, Clock}
-use Rattle.script.specs.Script.{valueOf, bitRecord, releaseRecord, recordOf}
+use Rattle.events.specs.declared.Event.the-variants.{Word, Release, Tick, Clock}
+use Rattle.script.specs.Script.{valueOf, tickRecord, releaseRecord, recordOf}
 use Rattle.script.specs.declared.Record.{Record}
 use Rattle.script.specs.declared.Record.the-variants.{Good, Bad}
 use Rattle.listing.specs.Records.{isGood, eventOf, isEvent, eventAt, allEvents}
 use Rattle.listing.specs.Results.{bitByte}
 
+-- an arm knows the record
 pub to-good : (r g : Record) (x : Bool) → r ≡ g → x ≡ isGood g → x ≡ isGood r
 to-good r g x h e = rw h e
+
+pub to-event : (r g : Record) (x : Event) → r ≡ g → x ≡ eventOf g → x ≡ eventOf r
+to-event r g x h e = rw h e
 
 -- what each arm gives, of a record that is an event
 abbrev Gives : Event → Record → Type 0
 Gives e r = isGood r ≡ true → e ≡ eventOf r
 
-bit-event : (e : Bool → Event) (value : ℕ) → Gives (e (eqb value 1)) (bitRecord e value)
-unfolding bitRecord isGood eventOf
-bit-event e value = pick-keeps (Gives (e (eqb value 1))) _ _ _ (λ h g. refl) (λ h g. cc)
+tick-event : (value : ℕ) → Gives (Tick (eqb value 1)) (tickRecord value)
+unfolding tickRecord isGood eventOf
+tick-event value = pick-keeps (Gives (Tick (eqb value 1))) _ _ _ (λ h g. refl) (λ h g. cc)
 
 release-event : (value : ℕ) → Gives Release (releaseRecord value)
 unfolding releaseRecord isGood eventOf
@@ -40,10 +44,6 @@ release-event value = pick-keeps (Gives Release) _ _ _ (λ h g. refl) (λ h g. c
 module _ (kind value : ℕ) (g : isGood (recordOf kind value) ≡ true) where
   at-kind : (k : ℕ) (e : Event) → kind ≡ k → Gives e (recordOf k value) → e ≡ eventOf (recordOf kind value)
   at-kind k e h f = subst (λ (n : ℕ). Gives e (recordOf n value)) (sym h) f g
-
-  to-power : kind ≡ 0 → Power (eqb value 1) ≡ eventOf (recordOf kind value)
-  unfolding recordOf
-  to-power h = at-kind 0 _ h (bit-event Power value)
 
   to-word : kind ≡ 1 → Word value ≡ eventOf (recordOf kind value)
   unfolding recordOf eventOf
@@ -55,7 +55,7 @@ module _ (kind value : ℕ) (g : isGood (recordOf kind value) ≡ true) where
 
   to-tick : kind ≡ 3 → Tick (eqb value 1) ≡ eventOf (recordOf kind value)
   unfolding recordOf
-  to-tick h = at-kind 3 _ h (bit-event Tick value)
+  to-tick h = at-kind 3 _ h (tick-event value)
 
   to-clock : kind ≡ 4 → Clock value ≡ eventOf (recordOf kind value)
   unfolding recordOf eventOf
@@ -73,19 +73,15 @@ of-word (suc (suc (suc zero))) value g h0 h2 h3 h4 = absurd (h3 refl)
 of-word (suc (suc (suc (suc zero)))) value g h0 h2 h3 h4 = absurd (h4 refl)
 of-word (suc (suc (suc (suc (suc n))))) value g h0 h2 h3 h4 = absurd (none-beyond n value g)
 
-bit-small : (e : Bool → Event) (value : ℕ) → isGood (bitRecord e value) ≡ true → leb value 1 ≡ true
-unfolding bitRecord isGood
-bit-small e value = pick-keeps (λ (r : Record). isGood r ≡ true → leb value 1 ≡ true) _ _ _ (λ h g. h) (λ h g. cc)
-
-power-small : (kind value : ℕ) → kind ≡ 0 → isGood (recordOf kind value) ≡ true → value ≤ 1
-unfolding recordOf
-power-small kind value h g = leb-true _ _ (bit-small Power value (subst (λ (n : ℕ). isGood (recordOf n value) ≡ true) h g))
+small : (value : ℕ) → isGood (tickRecord value) ≡ true → leb value 1 ≡ true
+unfolding tickRecord isGood
+small value = pick-keeps (λ (r : Record). isGood r ≡ true → leb value 1 ≡ true) _ _ _ (λ h g. h) (λ h g. cc)
 
 tick-small : (kind value : ℕ) → kind ≡ 3 → isGood (recordOf kind value) ≡ true → value ≤ 1
 unfolding recordOf
-tick-small kind value h g = leb-true _ _ (bit-small Tick value (subst (λ (n : ℕ). isGood (recordOf n value) ≡ true) h g))
+tick-small kind value h g = leb-true _ _ (small value (subst (λ (n : ℕ). isGood (recordOf n value) ≡ true) h g))
 
--- each kind, by the bytes of record k; the value of a power-up and of a tick is its low byte
+-- a kind, by the bytes of record k; a tick's value is its low byte
 module _ (s : List ℕ) (k : ℕ) (g : isEvent s k ≡ true) where
   abbrev kind : ℕ
   kind = getD s (k * 3) 0
@@ -95,12 +91,6 @@ module _ (s : List ℕ) (k : ℕ) (g : isEvent s k ≡ true) where
 
   abbrev low : ℕ
   low = getD s (k * 3 + 2) 0
-
-  pub power-at : kind ≡ 0 → Power (eqb low 1) ≡ eventAt s k
-  power-at h =
-      let l : valueOf high low ≤ 1 = power-small kind (valueOf high low) h g in
-      let z : valueOf high low ≡ low = omega arith in
-      ap (λ (v : ℕ). Power (eqb v 1)) (sym z) ∙ to-power kind (valueOf high low) g h
 
   pub word-at : kind ≡ 1 → Word (valueOf high low) ≡ eventAt s k
   word-at h = to-word kind (valueOf high low) g h

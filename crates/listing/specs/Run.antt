@@ -5,7 +5,7 @@ use mathlib.Core.Bool.{Bool, true}
 use mathlib.Core.List.{List}
 use Prim.Native.Nat.{ℕ, zero, suc, _+_, _-_, _*_, _≤_, _<_}
 use lib.ListN.{length}
-use Rattle.command.specs.Layouts.{ours}
+use Rattle.command.specs.Layouts.{layouts}
 use Rattle.state.specs.Notes.{noteNumber}
 use Rattle.state.specs.declared.Bridge.{Bridge}
 use Rattle.events.specs.Turn.{Out, turn}
@@ -31,14 +31,19 @@ putAnswer s k a = put s k (noteNumber (a .note)) (a .sdo) (a .sout)
 unfoldable pub listOf : List ℕ → ℕ → ℕ → Bridge → List ℕ → List ℕ → List ℕ → Moment
 listOf records zero k b tx rx s = moment b tx rx s
 listOf records (suc left) k b tx rx s =
-    listOf records left (k + 1) (turn ours b tx rx (eventAt records k) .answer .state) (turn ours b tx rx (eventAt records k) .tx)
-    (turn ours b tx rx (eventAt records k) .rx) (putAnswer s k (turn ours b tx rx (eventAt records k) .answer))
+    listOf records left (k + 1) (turn layouts b tx rx (eventAt records k) .answer .state) (turn layouts b tx rx (eventAt records k) .tx)
+    (turn layouts b tx rx (eventAt records k) .rx) (putAnswer s k (turn layouts b tx rx (eventAt records k) .answer))
 
 -- the records are events, and the results have room
 pub record Listable (records s : List ℕ) (many : ℕ) : Type 0 where
   pub events : allEvents records many ≡ true
   pub bytes : many * 3 ≤ length records
   pub room : many * 4 ≤ length s
+
+-- the list has an event k
+pub record Ahead (records s : List ℕ) (k many : ℕ) : Type 0 where
+  pub list : Listable records s many
+  pub one : k < many
 
 -- what a part of the list is lent: its first event is number `from`
 pub record Lent (records : List ℕ) (many from : ℕ) (b : Bridge) (tx rx s : List ℕ) : Type 0 where

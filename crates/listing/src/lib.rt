@@ -1,11 +1,12 @@
 // The records of a list and the bytes of their results (02 item 6).
+use events::Event;
 use script::Record;
 use state::Note;
 ghost use mathlib.Core.Path.{_≡_};
 ghost use Prim.Native.Nat.{_+_, _*_, _≤_};
 ghost use lib.ListN.{length};
 ghost use Rattle.state.specs.Notes.{noteNumber};
-ghost use Rattle.listing.specs.Records.{isGood, isEvent, allEvents};
+ghost use Rattle.listing.specs.Records.{isGood, eventOf, recordAt, isEvent, eventAt, allEvents};
 ghost use Rattle.listing.specs.Results.{bitByte, put as putOf};
 
 fn is_good(found: Record) -> bool
@@ -17,14 +18,37 @@ fn is_good(found: Record) -> bool
     }
 }
 
-// Record k, counted from 0, is an event.
+fn event_of(found: Record) -> Event
+    ensures { λ r. ⌜ r ≡ eventOf found ⌝ }
+{
+    match found {
+        Record::Good(event) => event,
+        Record::Bad => Event::Release,
+    }
+}
+
+// Record k, counted from 0.
+fn record_at(records: &[u8], k: usize) -> Record
+    requires { ⌜ k * 3 + 3 ≤ length (now records) ⌝ }
+    ensures { λ r. ⌜ r ≡ recordAt (now (records .entry)) k ⌝ }
+{
+    let at = k * 3;
+    script::read(records[at], script::value(records[at + 1], records[at + 2]))
+}
+
 pub fn is_event(records: &[u8], k: usize) -> bool
     requires { ⌜ k * 3 + 3 ≤ length (now records) ⌝ }
     ensures { λ r. ⌜ r ≡ isEvent (now (records .entry)) k ⌝ }
 {
-    let at = k * 3;
-    let found = script::read(records[at], script::value(records[at + 1], records[at + 2]));
-    is_good(found)
+    is_good(record_at(records, k))
+}
+
+// The event that record k is.
+pub fn event_at(records: &[u8], k: usize) -> Event
+    requires { ⌜ k * 3 + 3 ≤ length (now records) ⌝ }
+    ensures { λ r. ⌜ r ≡ eventAt (now (records .entry)) k ⌝ }
+{
+    event_of(record_at(records, k))
 }
 
 // The first so many records are events.

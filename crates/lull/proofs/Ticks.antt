@@ -8,7 +8,7 @@ use lib.Dec.{ltb, leb, eqb}
 use borrow.Author.Tests.{ltb-true, lt-leb, ne-eqb}
 use Rattle.base.specs.Pick.{pick, pick-false, pick-lt, pick-not-lt, pick-keeps, and-l, and-r}
 use Rattle.base.specs.Truth.{denied, allowed, and-none}
-use Rattle.command.specs.Layouts.{ours}
+use Rattle.command.specs.Layouts.{layouts}
 use Rattle.line.specs.Format.{pieceLength}
 use Rattle.line.specs.Reader.{hear}
 use Rattle.registers.specs.declared.Control.{Control}
@@ -42,9 +42,6 @@ reach-within s =
     let within : ℕ → Type 0 = λ n. n ≤ pieceLength (s .piece) in
     pick-keeps within _ _ _ (λ t. pick-keeps within _ _ _ (λ u. omega arith) (λ u. omega arith)) (λ t. omega arith)
 
-pub reach-most : (s : Sender) → reach s ≤ 18
-reach-most s = omega (arith, reach-within s, piece-most (s .piece))
-
 -- the reach by the length that a function told
 module _ (s : Sender) (n : ℕ) (e : n ≡ pieceLength (s .piece)) where
   pub to-length : 0 < s .left → n < 18 → n ≡ reach s
@@ -66,7 +63,9 @@ module _ (s : Sender) (n : ℕ) (e : n ≡ pieceLength (s .piece)) where
 pub gone-within : (still x : Bool) (gone : ℕ) (s : Sender) → (x && (still || ltb gone (reach s))) ≡ true → goneOn gone still ≤ 18
 unfolding goneOn pick
 gone-within true x gone s h = omega arith
-gone-within false x gone s h = let l : gone < reach s = ltb-true _ _ (and-r x (ltb gone (reach s)) h) in omega (arith, reach-most s)
+gone-within false x gone s h =
+    let l : gone < reach s = ltb-true _ _ (and-r x (ltb gone (reach s)) h) in
+    omega (arith, reach-within s, piece-most (s .piece))
 
 -- a bit within the reach: the piece goes on, and no place is sent with it
 record Goes (s : Sender) : Type 0 where
@@ -123,7 +122,7 @@ lays false b sin w r q =
 
 first-quiet : (still : Bool) (b : Bridge) (sin : Bool) (tx rx : List ℕ) → (still ≡ true → restsIn b ≡ true)
     → quietBy (hotOf b) (reach (b .sending .sender)) still sin ≡ true
-    → turn ours b tx rx (Tick sin) ≡ out (quietAnswer b still (hotOf b) sin) tx rx
+    → turn layouts b tx rx (Tick sin) ≡ out (quietAnswer b still (hotOf b) sin) tx rx
 unfolding turn turned reacted written
 first-quiet still b sin tx rx r q = rw (lays still b sin _ r q) refl
 
@@ -167,7 +166,7 @@ still-quiet false b h sin q = q
 
 pub quiet-turn : (some : Bool) (b : Bridge) (still : Bool) (h : Hot) (sin : Bool) (tx rx : List ℕ) → (some ≡ false → h ≡ hotOf b)
     → (still ≡ true → restsIn b ≡ true) → quietBy h (reach (b .sending .sender)) still sin ≡ true
-    → turn ours (laidBy some b still h) tx rx (Tick sin) ≡ out (quietAnswer b still h sin) tx rx
+    → turn layouts (laidBy some b still h) tx rx (Tick sin) ≡ out (quietAnswer b still h sin) tx rx
 unfolding pick
 quiet-turn true b still h sin tx rx s r q =
     first-quiet still (laid b still h) sin tx rx (still-laid still b h r) (still-quiet still b h sin q)

@@ -6,8 +6,8 @@ use Prim.Native.Nat.{ℕ, zero, suc, _+_, _*_}
 use native.Mathlib.Omega.{arith}
 use lib.ListN.{length, take, drop, length-append, take-append-drop}
 use lib.Seq.{take-at}
-use Rattle.command.specs.Layouts.{ours}
-use Rattle.kept.proofs.Fits.{ours-fits}
+use Rattle.command.specs.Layouts.{layouts}
+use Rattle.kept.proofs.Fits.{layouts-fit}
 use Rattle.kept.proofs.Sound.{facts-sound}
 use Rattle.events.specs.declared.Event.{Event}
 use Rattle.bridge.specs.Runs.{Config, endOf, soutOf}
@@ -71,24 +71,24 @@ told-cut (suc k) n m (kind ∷ high ∷ low ∷ a) es h =
 
 -- WHAT THE CALLS GIVE, where all is done: four bytes for each event, and the run's bits in them.
 module _ (c : Config) (es : List Event) (s : List ℕ) where
-  written-done : written (allDone ours c es s) ≡ bytesIn ours c es
-  written-done = take-at (bytesIn ours c es) (drop (length es * 4) s) (length es * 4) (four-each ours c es)
+  written-done : written (allDone layouts c es s) ≡ bytesIn layouts c es
+  written-done = take-at (bytesIn layouts c es) (drop (length es * 4) s) (length es * 4) (four-each layouts c es)
 
-  line-done : soutIn es (allDone ours c es s .results) ≡ soutOf ours c es
-  line-done = bits-in-results ours c es (drop (length es * 4) s)
+  line-done : soutIn es (allDone layouts c es s .results) ≡ soutOf layouts c es
+  line-done = bits-in-results layouts c es (drop (length es * 4) s)
 
 module _ (c : Config) (es more : List Event) (s t u : List ℕ) where
   abbrev there : Config
-  there = endOf ours c es
+  there = endOf layouts c es
 
-  when-done : AsOne es more (allDone ours c es s) (allDone ours there more t) (allDone ours c (es ++ more) u)
+  when-done : AsOne es more (allDone layouts c es s) (allDone layouts there more t) (allDone layouts c (es ++ more) u)
   when-done = record {
-    state-and-stores = end-append ours c es more;
+    state-and-stores = end-append layouts c es more;
     results =
-        written-done c (es ++ more) u ∙ bytes-append ours c es more
+        written-done c (es ++ more) u ∙ bytes-append layouts c es more
         ∙ ap₂ (λ (x y : List ℕ). x ++ y) (sym (written-done c es s)) (sym (written-done there more t));
     line =
-        line-done c (es ++ more) u ∙ sout-append ours c es more
+        line-done c (es ++ more) u ∙ sout-append layouts c es more
         ∙ ap₂ (λ (x y : List Bool). x ++ y) (sym (line-done c es s)) (sym (line-done there more t));
     done = let n = length-append es more in omega (arith, n);
     first-done = refl;
@@ -99,18 +99,18 @@ module _ (c : Config) (es more : List Event) (s t u : List ℕ) where
   }
 
   -- calls that came to this
-  when-so : (a b d : End) → a ≡ allDone ours c es s → b ≡ allDone ours there more t → d ≡ allDone ours c (es ++ more) u → AsOne es more a b d
+  when-so : (a b d : End) → a ≡ allDone layouts c es s → b ≡ allDone layouts there more t → d ≡ allDone layouts c (es ++ more) u → AsOne es more a b d
   when-so a b d p q r = rw (p, q, r) when-done
 
 -- each call is all done: what the first left obeys the rules again
 pub night-after-night : NightAfterNight
 night-after-night c w first second s t u es more told told-more room room-more room-both =
     let o : Obeys c = obeys-whole c w in
-    let v : Obeys (endOf ours c es) = run-obeys ours ours-fits c es o in
+    let v : Obeys (endOf layouts c es) = run-obeys layouts layouts-fit c es o in
     let a = all-done c first s es told (omega (arith, room)) (o .stores) (facts-sound _ (o .rules)) in
     when-so c es more s t u _ _ _ a
-    (ap (λ (x : End). night ours (left x) second t) a
-    ∙ all-done (endOf ours c es) second t more told-more (omega (arith, room-more)) (v .stores) (facts-sound _ (v .rules)))
+    (ap (λ (x : End). night layouts (left x) second t) a
+    ∙ all-done (endOf layouts c es) second t more told-more (omega (arith, room-more)) (v .stores) (facts-sound _ (v .rules)))
     (all-done c (first ++ second) u (es ++ more) (told-append first second es more told told-more) (omega (arith, room-both)) (o .stores)
     (facts-sound _ (o .rules)))
 
@@ -121,7 +121,7 @@ cut-anywhere c w records s t u es k told room room-more room-both =
     let a : List ℕ = take (k * 3) records in
     let b : List ℕ = drop (k * 3) records in
     subst
-    (λ (x : List ℕ). AsOne (take k es) (drop k es) (night ours c a s) (night ours (left (night ours c a s)) b t) (night ours c x u))
+    (λ (x : List ℕ). AsOne (take k es) (drop k es) (night layouts c a s) (night layouts (left (night layouts c a s)) b t) (night layouts c x u))
     (take-append-drop (k * 3) records)
     (night-after-night c w a b s t u (take k es) (drop k es) (cut .before-it) (cut .behind-it) (omega (arith, room)) (omega (arith, room-more))
     (omega (arith, room-both, n)))

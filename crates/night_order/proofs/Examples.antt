@@ -6,16 +6,17 @@ use mathlib.Core.List.{List, [], _∷_, _++_}
 use Prim.Native.Nat.{ℕ, zero, suc}
 use native.Mathlib.Omega.{arith}
 use lib.ListN.{replicate, length-replicate}
-use Rattle.command.specs.Layouts.{ours}
+use Rattle.layout.specs.declared.Layout.the-variants.{Ours}
+use Rattle.command.specs.Layouts.{layouts}
 use Rattle.line.specs.Reader.{readLine}
-use Rattle.kept.proofs.Fits.{ours-fits}
+use Rattle.kept.proofs.Fits.{layouts-fit}
 use Rattle.kept.proofs.Sound.{facts-sound}
 use Rattle.events.specs.declared.Event.{Event}
 use Rattle.bridge.specs.Runs.{RightStores, AllSent}
 use Rattle.bridge.proofs.Reached.{power-obeys}
 use Rattle.order.proofs.Examples.{from, ticks, frame, opening, meets}
 use Rattle.order.proofs.Tests.{are-premises, is-all-sent}
-use Rattle.script.specs.Script.{bitRecord, releaseRecord, recordOf}
+use Rattle.script.specs.Script.{powerRecord, tickRecord, releaseRecord, recordOf}
 use Rattle.listing.specs.Results.{bitByte}
 use Rattle.whole_night.specs.Night.{events, before, eventsIn, bytesIn, End, tested, judged, night}
 use Rattle.whole_night.proofs.Theorems.{all-done}
@@ -37,7 +38,7 @@ told : List Event
 told = opening ++ (frame (0x2000 ∷ 0xAAF0 ∷ []) ++ ticks 36)
 
 says : eventsIn records ≡ events told
-unfolding meets told records eventsIn before recordOf bitRecord releaseRecord
+unfolding meets told records eventsIn before recordOf powerRecord tickRecord releaseRecord
 says = refl
 
 zeros : RightStores (from .tx) (from .rx)
@@ -46,18 +47,18 @@ zeros = record { tx-is = length-replicate {A = ℕ} 512 0; rx-is = length-replic
 
 -- the results are lent all 0s
 abbrev answer : End
-answer = night ours from records (replicate 176 0)
+answer = night layouts from records (replicate 176 0)
 
 in-order : NightInOrder from told answer
 unfolding meets told
 in-order =
-    in-order-of-a-night true (replicate 512 0) (replicate 256 0) zeros records (replicate 176 0) told says (omega arith)
-    (are-premises ours from told refl)
+    in-order-of-a-night true Ours (replicate 512 0) (replicate 256 0) zeros records (replicate 176 0) told says (omega arith)
+    (are-premises layouts from told refl)
 
 sent : AllSent (answer .listed .state .sending)
 unfolding meets told
 sent =
-    let o = power-obeys ours ours-fits true (replicate 512 0) (replicate 256 0) zeros in
+    let o = power-obeys layouts layouts-fit true Ours (replicate 512 0) (replicate 256 0) zeros in
     subst (λ (n : End). AllSent (n .listed .state .sending))
     (sym (all-done from records (replicate 176 0) told says (omega arith) zeros (facts-sound _ (o .rules)))) (is-all-sent _ refl)
 
@@ -66,6 +67,6 @@ unfolding meets told
 shown = in-order .all-sent sent ∙ refl
 
 -- and one tick, all of it computed: note 0, SDO FFFF, SOUT 1; the byte behind is as lent
-one-tick : night ours from (3 ∷ 0 ∷ 1 ∷ []) (7 ∷ 7 ∷ 7 ∷ 7 ∷ 7 ∷ []) .results ≡ 0 ∷ 0xFF ∷ 0xFF ∷ 1 ∷ 7 ∷ []
-unfolding meets eventsIn before recordOf bitRecord judged tested bytesIn bitByte
+one-tick : night layouts from (3 ∷ 0 ∷ 1 ∷ []) (7 ∷ 7 ∷ 7 ∷ 7 ∷ 7 ∷ []) .results ≡ 0 ∷ 0xFF ∷ 0xFF ∷ 1 ∷ 7 ∷ []
+unfolding meets eventsIn before recordOf powerRecord tickRecord judged tested bytesIn bitByte
 one-tick = refl

@@ -5,8 +5,10 @@ use mathlib.Core.List.{List}
 use Prim.Native.Nat.{ℕ, _*_, _≤_}
 use native.Mathlib.Omega.{arith}
 use lib.ListN.{length, drop}
-use Rattle.command.specs.Layouts.{ours}
-use Rattle.kept.proofs.Fits.{ours-fits}
+use Rattle.layout.specs.declared.Layout.{Layout}
+use Rattle.layout.specs.declared.Layout.the-variants.{Ours}
+use Rattle.command.specs.Layouts.{layouts}
+use Rattle.kept.proofs.Fits.{layouts-fit}
 use Rattle.kept.proofs.Sound.{facts-sound}
 use Rattle.events.specs.declared.Event.{Event}
 use Rattle.bridge.specs.Runs.{Config, RightStores, powerOn}
@@ -19,10 +21,10 @@ use Rattle.night_order.specs.InOrder.{NightInOrder, InOrderOfANight, InO
 use Rattle.night_order.proofs.Line.{bits-in-results}
 
 -- What holds of a run holds of what the call gives for it, if it is done.
-module _ (c : Config) (es : List Event) (s : List ℕ) (f : Faithful ours c es) where
-  when-done : NightInOrder c es (allDone ours c es s)
+module _ (c : Config) (es : List Event) (s : List ℕ) (f : Faithful layouts c es) where
+  when-done : NightInOrder c es (allDone layouts c es s)
   when-done =
-      let bits = bits-in-results ours c es (drop (length es * 4) s) in
+      let bits = bits-in-results layouts c es (drop (length es * 4) s) in
       record {
         outcome = refl;
         done = refl;
@@ -33,24 +35,24 @@ module _ (c : Config) (es : List Event) (s : List ℕ) (f : Faithful ours c es) 
       }
 
   pub of-the-run : (records : List ℕ) → eventsIn records ≡ events es → length es * 4 ≤ length s → Obeys c
-      → NightInOrder c es (night ours c records s)
+      → NightInOrder c es (night layouts c records s)
   of-the-run records told room o =
       subst (NightInOrder c es) (sym (all-done c records s es told (omega (arith, room)) (o .stores) (facts-sound (c .bridge) (o .rules))))
       when-done
 
-module _ (good : Bool) (tx rx : List ℕ) (stores : RightStores tx rx) where
-  power : Obeys (powerOn good tx rx)
-  power = power-obeys ours ours-fits good tx rx stores
+module _ (good : Bool) (layout : Layout) (tx rx : List ℕ) (stores : RightStores tx rx) where
+  power : Obeys (powerOn good layout tx rx)
+  power = power-obeys layouts layouts-fit good layout tx rx stores
 
 pub in-order-of-a-night : InOrderOfANight
-in-order-of-a-night good tx rx stores records s es told room p =
-    of-the-run (powerOn good tx rx) es s (demand-3 good tx rx stores es p) records told (omega (arith, room)) (power good tx rx stores)
+in-order-of-a-night good layout tx rx stores records s es told room p =
+    of-the-run (powerOn good layout tx rx) es s (demand-3 good layout tx rx stores es p) records told (omega (arith, room)) (power good layout tx rx stores)
 
 pub in-order-as-asked : InOrderAsAsked
-in-order-as-asked good tx rx stores records s es told room p =
-    of-the-run (powerOn good tx rx) es s (demand-3-as-asked good tx rx stores es p) records told (omega (arith, room)) (power good tx rx stores)
+in-order-as-asked good layout tx rx stores records s es told room p =
+    of-the-run (powerOn good layout tx rx) es s (demand-3-as-asked good layout tx rx stores es p) records told (omega (arith, room)) (power good layout tx rx stores)
 
 pub in-order-of-a-script : InOrderOfAScript
-in-order-of-a-script good tx rx stores records s es told room p =
-    of-the-run (powerOn true tx rx) _ s (demand-3-script-as-asked good tx rx stores es p) records told (omega (arith, room))
-    (power true tx rx stores)
+in-order-of-a-script good layout tx rx stores records s es told room p =
+    of-the-run (powerOn true Ours tx rx) _ s (demand-3-script-as-asked good layout tx rx stores es p) records told (omega (arith, room))
+    (power true Ours tx rx stores)

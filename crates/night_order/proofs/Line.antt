@@ -4,7 +4,7 @@ use mathlib.Core.Bool.{Bool, true, false}
 use mathlib.Core.List.{List, [], _∷_, _++_, append-assoc}
 use Prim.Native.Nat.{ℕ}
 use lib.Dec.{eqb}
-use Rattle.command.specs.Layouts.{Layout}
+use Rattle.command.specs.Layouts.{Layouts}
 use Rattle.state.specs.Notes.{noteNumber}
 use Rattle.events.specs.Turn.{Out}
 use Rattle.events.specs.declared.Event.{Event}
@@ -22,7 +22,7 @@ bit-read false = refl
 abbrev bytesOf : Out → List ℕ
 bytesOf o = fourBytes (noteNumber (o .answer .note)) (o .answer .sdo) (o .answer .sout)
 
-module _ (l : Layout) where
+module _ (l : Layouts) where
   -- whatever stands behind the results
   pub bits-in-results : (c : Config) (es : List Event) (rest : List ℕ) → soutIn es (bytesIn l c es ++ rest) ≡ soutOf l c es
   unfolding soutIn bytesIn soutOf

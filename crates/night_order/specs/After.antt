@@ -4,7 +4,7 @@ use mathlib.Core.Path.{_≡_}
 use mathlib.Core.List.{List, _++_}
 use Prim.Native.Nat.{ℕ, _+_, _*_, _≤_}
 use lib.ListN.{length, take, drop}
-use Rattle.command.specs.Layouts.{ours}
+use Rattle.command.specs.Layouts.{layouts}
 use Rattle.events.specs.declared.Event.{Event}
 use Rattle.bridge.specs.Runs.{Config, Whole}
 use Rattle.whole_night.specs.Night.{events, eventsIn, End, night}
@@ -35,11 +35,11 @@ pub record AsOne (es more : List Event) (first second both : End) : Type 0 where
 abbrev pub NightAfterNight : Type 0
 NightAfterNight = (c : Config) → Whole c → (first second s t u : List ℕ) (es more : List Event) → eventsIn first ≡ events es
     → eventsIn second ≡ events more → length es * 4 ≤ length s → length more * 4 ≤ length t → length (es ++ more) * 4 ≤ length u
-    → AsOne es more (night ours c first s) (night ours (left (night ours c first s)) second t) (night ours c (first ++ second) u)
+    → AsOne es more (night layouts c first s) (night layouts (left (night layouts c first s)) second t) (night layouts c (first ++ second) u)
 
 -- And one list of events cut behind its record k, whatever k is.
 abbrev pub CutAnywhere : Type 0
 CutAnywhere = (c : Config) → Whole c → (records s t u : List ℕ) (es : List Event) (k : ℕ) → eventsIn records ≡ events es
     → length (take k es) * 4 ≤ length s → length (drop k es) * 4 ≤ length t → length es * 4 ≤ length u
-    → AsOne (take k es) (drop k es) (night ours c (take (k * 3) records) s)
-    (night ours (left (night ours c (take (k * 3) records) s)) (drop (k * 3) records) t) (night ours c records u)
+    → AsOne (take k es) (drop k es) (night layouts c (take (k * 3) records) s)
+    (night layouts (left (night layouts c (take (k * 3) records) s)) (drop (k * 3) records) t) (night layouts c records u)

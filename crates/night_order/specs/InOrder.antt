@@ -6,7 +6,9 @@ use mathlib.Core.Bool.{Bool, true}
 use mathlib.Core.List.{List, _∷_}
 use Prim.Native.Nat.{ℕ, _*_, _≤_}
 use lib.ListN.{length}
-use Rattle.command.specs.Layouts.{ours}
+use Rattle.layout.specs.declared.Layout.{Layout}
+use Rattle.layout.specs.declared.Layout.the-variants.{Ours}
+use Rattle.command.specs.Layouts.{layouts}
 use Rattle.line.specs.Reader.{readLine, Sent}
 use Rattle.events.specs.declared.Event.{Event}
 use Rattle.events.specs.declared.Event.the-variants.{Power}
@@ -24,27 +26,27 @@ pub record NightInOrder (c : Config) (es : List Event) (n : End) : Type 0 where
   pub outcome : n .listed .outcome ≡ Done
   pub done : n .listed .done ≡ length es
   -- as a reader of the line sees it, and as the bits are
-  pub in-order : Sent (readLine (soutIn es (n .results))) (acceptedIn ours c es)
-  pub exactly : Exactly (soutIn es (n .results)) (n .listed .state .sending .sender) (acceptedIn ours c es)
+  pub in-order : Sent (readLine (soutIn es (n .results))) (acceptedIn layouts c es)
+  pub exactly : Exactly (soutIn es (n .results)) (n .listed .state .sending .sender) (acceptedIn layouts c es)
   -- "once all are sent"
-  pub all-sent : AllSent (n .listed .state .sending) → readLine (soutIn es (n .results)) .finished ≡ acceptedIn ours c es
-  pub exactly-all : AllSent (n .listed .state .sending) → Whole (soutIn es (n .results)) (acceptedIn ours c es)
+  pub all-sent : AllSent (n .listed .state .sending) → readLine (soutIn es (n .results)) .finished ≡ acceptedIn layouts c es
+  pub exactly-all : AllSent (n .listed .state .sending) → Whole (soutIn es (n .results)) (acceptedIn layouts c es)
 
--- From power-up, good or bad OTP, with any words in the stores: a list whose records are events, and results with room for them; whatever
+-- From power-up, good or bad OTP, in either layout, with any words in the stores: a list whose records are events, and results with room for them; whatever
 -- stands behind that room, and in it before.
 abbrev pub InOrderOfANight : Type 0
-InOrderOfANight = (good : Bool) (tx rx : List ℕ) → RightStores tx rx → (records s : List ℕ) (es : List Event) → eventsIn records ≡ events es
-    → length es * 4 ≤ length s → Premises ours (powerOn good tx rx) es
-    → NightInOrder (powerOn good tx rx) es (night ours (powerOn good tx rx) records s)
+InOrderOfANight = (good : Bool) (layout : Layout) (tx rx : List ℕ) → RightStores tx rx → (records s : List ℕ) (es : List Event) → eventsIn records ≡ events es
+    → length es * 4 ≤ length s → Premises layouts (powerOn good layout tx rx) es
+    → NightInOrder (powerOn good layout tx rx) es (night layouts (powerOn good layout tx rx) records s)
 
 -- the same under the premises that demand 3 itself has
 abbrev pub InOrderAsAsked : Type 0
-InOrderAsAsked = (good : Bool) (tx rx : List ℕ) → RightStores tx rx → (records s : List ℕ) (es : List Event) → eventsIn records ≡ events es
-    → length es * 4 ≤ length s → AskedPremises ours (powerOn good tx rx) es
-    → NightInOrder (powerOn good tx rx) es (night ours (powerOn good tx rx) records s)
+InOrderAsAsked = (good : Bool) (layout : Layout) (tx rx : List ℕ) → RightStores tx rx → (records s : List ℕ) (es : List Event) → eventsIn records ≡ events es
+    → length es * 4 ≤ length s → AskedPremises layouts (powerOn good layout tx rx) es
+    → NightInOrder (powerOn good layout tx rx) es (night layouts (powerOn good layout tx rx) records s)
 
 -- and for a list whose first record is the power-up, as a script of the bench has it
 abbrev pub InOrderOfAScript : Type 0
-InOrderOfAScript = (good : Bool) (tx rx : List ℕ) → RightStores tx rx → (records s : List ℕ) (es : List Event)
-    → eventsIn records ≡ events (Power good ∷ es) → length (Power good ∷ es) * 4 ≤ length s → AskedPremises ours (powerOn good tx rx) es
-    → NightInOrder (powerOn true tx rx) (Power good ∷ es) (night ours (powerOn true tx rx) records s)
+InOrderOfAScript = (good : Bool) (layout : Layout) (tx rx : List ℕ) → RightStores tx rx → (records s : List ℕ) (es : List Event)
+    → eventsIn records ≡ events (Power good layout ∷ es) → length (Power good layout ∷ es) * 4 ≤ length s → AskedPremises layouts (powerOn good layout tx rx) es
+    → NightInOrder (powerOn true Ours tx rx) (Power good layout ∷ es) (night layouts (powerOn true Ours tx rx) records s)

@@ -8,7 +8,7 @@ use lib.Dec.{ltb, eqb}
 use lib.ListN.{length, getD}
 use borrow.Author.Tests.{lt-ltb, le-ltb}
 use Rattle.base.specs.Pick.{pick, pick-true, pick-false}
-use Rattle.command.specs.Layouts.{ours}
+use Rattle.command.specs.Layouts.{layouts}
 use Rattle.line.specs.Reader.{hear}
 use Rattle.plan.specs.Plan.{noAnswer}
 use Rattle.state.specs.Facts.{HostFit}
@@ -26,10 +26,9 @@ use Rattle.lull.specs.declared.Quiet.{Quiet}
 use Rattle.lull.proofs.Ticks.{quiet-turn, gone-within}
 use Rattle.listing.specs.Records.{eventAt}
 use Rattle.listing.specs.Results.{put}
-use Rattle.listing.specs.Run.{Moment, putAnswer, listOf, Listable, Gone}
+use Rattle.listing.specs.Run.{Moment, putAnswer, listOf, Ahead, Gone}
 use Rattle.listing.proofs.Records.{each-event, tick-at}
 use Rattle.listing.proofs.Laws.{put-length}
-use Rattle.pouring.specs.Poured.{Ahead}
 use Rattle.night_parts.specs.Hush.{Hush}
 use Rattle.night_parts.proofs.Single.{room-now, tick-again}
 
@@ -58,13 +57,13 @@ module _ (records : List ℕ) (many : ℕ) (b : Bridge) (from : ℕ) (s₀ : Lis
   is-tick = sym (tick-at records k (each-event records many (l .list .events) k i) (sym ke ∙ three)) ∙ ap Tick (sym n)
 
   module _ (q : quietBy h (reach (b .sending .sender)) still sin ≡ true) where
-    turned : (tx rx : List ℕ) → turn ours before tx rx (eventAt records k) ≡ out (quietAnswer b still h sin) tx rx
-    turned tx rx = ap (turn ours before tx rx) is-tick ∙ quiet-turn (ltb from k) b still h sin tx rx (v .first) (λ e. sym r ∙ e) q
+    turned : (tx rx : List ℕ) → turn layouts before tx rx (eventAt records k) ≡ out (quietAnswer b still h sin) tx rx
+    turned tx rx = ap (turn layouts before tx rx) is-tick ∙ quiet-turn (ltb from k) b still h sin tx rx (v .first) (λ e. sym r ∙ e) q
 
     abbrev on : List ℕ → List ℕ → Out → Moment
     on tx rx x = listOf records (many - (k + 1)) (k + 1) (x .answer .state) (x .tx) (x .rx) (putAnswer s k (x .answer))
 
-    one : (tx rx : List ℕ) → on tx rx (turn ours before tx rx (eventAt records k)) ≡ listOf records (many - k) k before tx rx s
+    one : (tx rx : List ℕ) → on tx rx (turn layouts before tx rx (eventAt records k)) ≡ listOf records (many - k) k before tx rx s
     unfolding listOf
     one tx rx = let z : many - k ≡ suc (many - (k + 1)) = omega arith in sym (ap (λ (m : ℕ). listOf records m k before tx rx s) z)
 
@@ -128,6 +127,6 @@ module _ (records : List ℕ) (many from : ℕ) (b₀ : Bridge) (tx₀ rx₀ s�
     unhushed-room = room-now records many from b₀ tx₀ rx₀ s₀ k b tx rx u (unhushed l) i
 
     pub unhushed-tick : (kind : ℕ) → kind ≡ getD records (k * 3) 0 → kind ≡ 3 → (sin : Bool) → sin ≡ eqb (getD records (k * 3 + 2) 0) 1 → (a : Answer) (t r z : List ℕ)
-        → out a t r ≡ turn ours b tx rx (Tick sin) → z ≡ put u k (noteNumber (a .note)) (a .sdo) (a .sout)
+        → out a t r ≡ turn layouts b tx rx (Tick sin) → z ≡ put u k (noteNumber (a .note)) (a .sdo) (a .sout)
         → Gone records many from b₀ tx₀ rx₀ s₀ (k + 1) (a .state) t r z
     unhushed-tick kind ke e = tick-again records many from b₀ tx₀ rx₀ s₀ k b tx rx u (unhushed l) i (sym ke ∙ e)

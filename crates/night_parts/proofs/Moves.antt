@@ -8,7 +8,7 @@ use lib.Dec.{eqb}
 use lib.ListN.{getD}
 use borrow.Author.Tests.{eqb-true}
 use Rattle.base.specs.Pick.{pick, pick-eq, pick-ne}
-use Rattle.command.specs.Layouts.{ours}
+use Rattle.command.specs.Layouts.{layouts}
 use Rattle.crc16.specs.Crc.{crcWord}
 use Rattle.registers.specs.declared.Control.{Control}
 use Rattle.state.specs.Rings.{written, ringAfter}
@@ -70,7 +70,7 @@ left b control mark phase = record {
   control = control;
   sending = b .sending;
   receiving = b .receiving;
-  frame = record { phase = phase; held = b .frame .held };
+  frame = record { phase = phase; held = b .frame .held; xmodem = b .frame .xmodem };
   clock = record {
     reading = b .clock .reading;
     mark = mark;
@@ -85,7 +85,7 @@ says b mark m = record { state = left b (settled (b .control) (b .receiving .rx 
 
 module _ (b : Bridge) (tx rx : List ℕ) where
   word-moves : (w : ℕ) (ph : Phase) → ph ≡ b .frame .phase → wordMove ph .moves ≡ true
-      → out (says b (b .clock .reading) (wordMove ph)) tx rx ≡ turn ours b tx rx (Word w)
+      → out (says b (b .clock .reading) (wordMove ph)) tx rx ≡ turn layouts b tx rx (Word w)
   unfolding turn turned reacted planned plannedIn answered answerWith performed stored done clearedAway received concluded ringAfter written pick wordMove replyMove
   word-moves w Idle e h = cc
   word-moves w (Collecting command got sum mine released blocked) e h = cc
@@ -96,7 +96,7 @@ module _ (b : Bridge) (tx rx : List ℕ) where
   word-moves w Discarding e h = cc
 
   release-moves : (ph : Phase) → ph ≡ b .frame .phase → releaseMove ph .moves ≡ true
-      → out (says b (b .clock .mark) (releaseMove ph)) tx rx ≡ turn ours b tx rx Release
+      → out (says b (b .clock .mark) (releaseMove ph)) tx rx ≡ turn layouts b tx rx Release
   unfolding turn turned reacted releasedIn performed stored done clearedAway received concluded ringAfter written pick releaseMove
   release-moves Idle e h = rw (← e) refl
   release-moves (Collecting command got sum mine released blocked) e h = cc
@@ -108,16 +108,16 @@ module _ (b : Bridge) (tx rx : List ℕ) where
     moves-to p q = pick p (wordMove (b .frame .phase)) (pick q (releaseMove (b .frame .phase)) noMove)
 
     by-kind : (p q : Bool) → eqb x 1 ≡ p → eqb x 2 ≡ q → moves-to p q .moves ≡ true
-        → out (says b (pick p (b .clock .reading) (b .clock .mark)) (moves-to p q)) tx rx ≡ turn ours b tx rx (eventAt records k)
+        → out (says b (pick p (b .clock .reading) (b .clock .mark)) (moves-to p q)) tx rx ≡ turn layouts b tx rx (eventAt records k)
     unfolding pick
     by-kind true q e f h =
-        word-moves _ (b .frame .phase) refl h ∙ ap (turn ours b tx rx) (word-at records k g (sym xe ∙ eqb-true x 1 e))
+        word-moves _ (b .frame .phase) refl h ∙ ap (turn layouts b tx rx) (word-at records k g (sym xe ∙ eqb-true x 1 e))
     by-kind false true e f h =
-        release-moves (b .frame .phase) refl h ∙ ap (turn ours b tx rx) (release-at records k g (sym xe ∙ eqb-true x 2 f))
+        release-moves (b .frame .phase) refl h ∙ ap (turn layouts b tx rx) (release-at records k g (sym xe ∙ eqb-true x 2 f))
     by-kind false false e f h = cc
 
     moved : moveOf x (b .frame .phase) .moves ≡ true
-        → out (says b (pick (eqb x 1) (b .clock .reading) (b .clock .mark)) (moveOf x (b .frame .phase))) tx rx ≡ turn ours b tx rx (eventAt records k)
+        → out (says b (pick (eqb x 1) (b .clock .reading) (b .clock .mark)) (moveOf x (b .frame .phase))) tx rx ≡ turn layouts b tx rx (eventAt records k)
     unfolding moveOf
     moved h = by-kind (eqb x 1) (eqb x 2) refl refl h
 

@@ -6,7 +6,7 @@ use Prim.Native.Nat.{ℕ, _+_, _-_, _*_, _<_, _≤_}
 use native.Mathlib.Omega.{arith}
 use lib.Dec.{eqb}
 use lib.ListN.{length, getD}
-use Rattle.command.specs.Layouts.{ours}
+use Rattle.command.specs.Layouts.{layouts}
 use Rattle.registers.specs.declared.Control.{Control}
 use Rattle.state.specs.Notes.{noteNumber}
 use Rattle.state.specs.Rings.{written}
@@ -18,14 +18,13 @@ use Rattle.events.specs.Events.{reacted}
 use Rattle.events.specs.Turn.{out, turned, turn}
 use Rattle.events.specs.declared.Answer.{Answer}
 use Rattle.events.specs.declared.Event.{Event}
-use Rattle.events.specs.declared.Event.the-variants.{Power, Release, Tick, Clock as ClockReading}
+use Rattle.events.specs.declared.Event.the-variants.{Release, Tick, Clock as ClockReading}
 use Rattle.script.specs.Script.{valueOf}
 use Rattle.listing.specs.Results.{put}
-use Rattle.listing.specs.Run.{Lent, Gone}
+use Rattle.listing.specs.Run.{Ahead, Lent, Gone}
 use Rattle.listing.specs.Records.{isEvent, eventAt}
-use Rattle.listing.proofs.Records.{each-event, power-at, word-only, release-at, tick-at, clock-at}
+use Rattle.listing.proofs.Records.{each-event, word-only, release-at, tick-at, clock-at}
 use Rattle.listing.proofs.Laws.{put-length, again, begins, event-now, joined}
-use Rattle.pouring.specs.Poured.{Ahead}
 use Rattle.night_parts.specs.Parts.{Onward, Apart, Further}
 
 pub to-kind : (x y n : ℕ) → x ≡ y → x ≡ n → y ≡ n
@@ -71,7 +70,7 @@ module _ (records : List ℕ) (many from : ℕ) (b₀ : Bridge) (tx₀ rx₀ s�
 
   module _ (h : k < many) where
     pub tick-again : getD records (k * 3) 0 ≡ 3 → (sin : Bool) → sin ≡ eqb (getD records (k * 3 + 2) 0) 1 → (a : Answer) (t r u : List ℕ)
-        → out a t r ≡ turn ours b tx rx (Tick sin) → u ≡ put s k (noteNumber (a .note)) (a .sdo) (a .sout)
+        → out a t r ≡ turn layouts b tx rx (Tick sin) → u ≡ put s k (noteNumber (a .note)) (a .sdo) (a .sout)
         → Gone records many from b₀ tx₀ rx₀ s₀ (k + 1) (a .state) t r u
     tick-again e sin n a t r u o w =
         again records many from b₀ tx₀ rx₀ s₀ k b tx rx s v h (Tick sin)
@@ -79,7 +78,7 @@ module _ (records : List ℕ) (many from : ℕ) (b₀ : Bridge) (tx₀ rx₀ s�
 
 clock-turn : (b : Bridge) (tx rx : List ℕ) (reading : ℕ)
     → out (record { state = clockedBy b reading (dogFires b reading) (watchFires (b .clock) reading); sdo = noAnswer; sout = true; note = Done }) tx rx
-    ≡ turn ours b tx rx (ClockReading reading)
+    ≡ turn layouts b tx rx (ClockReading reading)
 unfolding turn turned reacted clocked written
 clock-turn b tx rx reading = refl
 
@@ -167,10 +166,6 @@ module _ (records : List ℕ) (many from : ℕ) (b : Bridge) (tx rx s : List ℕ
   good : isEvent records from ≡ true
   good = each-event records many (l .list .events) from (l .one)
 
-  pub lent-power : (x : ℕ) → x ≡ getD records (from * 3) 0 → x ≡ 0 → (bit : Bool) → bit ≡ eqb (getD records (from * 3 + 2) 0) 1
-      → Power bit ≡ eventAt records from
-  lent-power x e h bit n = ap Power n ∙ power-at records from good (sym e ∙ h)
-
   pub lent-release : getD records (from * 3) 0 ≡ 2 → Release ≡ eventAt records from
   lent-release h = release-at records from good h
 
@@ -180,7 +175,7 @@ module _ (records : List ℕ) (many from : ℕ) (b : Bridge) (tx rx s : List ℕ
   lent-word x e n =
       word-only records from good (λ i. n .0 .0 .0 .1 (e ∙ i)) (λ i. n .0 .0 .1 (e ∙ i)) (λ i. n .0 .1 (e ∙ i)) (λ i. n .1 (e ∙ i))
 
-  pub alone-part : (e : Event) → e ≡ eventAt records from → (a : Answer) (t r u : List ℕ) → out a t r ≡ turn ours b tx rx e
+  pub alone-part : (e : Event) → e ≡ eventAt records from → (a : Answer) (t r u : List ℕ) → out a t r ≡ turn layouts b tx rx e
       → u ≡ put s from (noteNumber (a .note)) (a .sdo) (a .sout) → Onward records many from b tx rx s (from + 1) (a .state) t r u
   alone-part e i a t r u o w = record {
     gone = again records many from b tx rx s from b tx rx s (begins records many from b tx rx s l) (l .one) e i a t r u o w;

@@ -20,7 +20,7 @@ pub fn value_at(records: &[u8], k: usize) -> u16
     script::value(records[at + 1], records[at + 2])
 }
 
-// Of a tick or a power-up.
+// Of a tick.
 pub fn bit_at(records: &[u8], k: usize) -> bool
     requires { ⌜ k * 3 + 3 ≤ length (now records) ⌝ }
     ensures { λ r. ⌜ r ≡ eqb (getD (now (records .entry)) (k * 3 + 2) 0) 1 ⌝ }

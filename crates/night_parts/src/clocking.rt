@@ -5,7 +5,7 @@ use state::Bridge;
 ghost use mathlib.Core.Path.{_≡_};
 ghost use Prim.Native.Nat.{_*_};
 ghost use lib.ListN.{getD};
-ghost use Rattle.pouring.specs.Poured.{Ahead};
+ghost use Rattle.listing.specs.Run.{Ahead};
 ghost use Rattle.night_parts.specs.Parts.{Further};
 
 pub fn clocks(bridge: Bridge, records: &[u8], results: &mut [u8], from: usize, many: usize) -> Part

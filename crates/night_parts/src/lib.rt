@@ -74,6 +74,7 @@ fn release(
         let frame = Frame {
             phase: after,
             held: kept,
+            xmodem: was.xmodem,
         };
         listing::put(results, from, Note::Done, m.sdo, true);
         let mut b = bridge;
@@ -102,17 +103,8 @@ pub fn next_part(
 {
     match bytes::kind_at(records, from) {
         0 => {
-            let good = bytes::bit_at(records, from);
-            alone(
-                bridge,
-                tx,
-                rx,
-                records,
-                results,
-                from,
-                many,
-                Event::Power(good),
-            )
+            let power = listing::event_at(records, from);
+            alone(bridge, tx, rx, records, results, from, many, power)
         }
         2 => release(bridge, tx, rx, records, results, from, many),
         3 => ticking::ticks(bridge, tx, rx, records, results, from, many),

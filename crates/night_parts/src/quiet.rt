@@ -2,7 +2,7 @@
 use crate::bytes;
 use lull::Hot;
 use state::Bridge;
-ghost use Rattle.pouring.specs.Poured.{Ahead};
+ghost use Rattle.listing.specs.Run.{Ahead};
 ghost use Rattle.state.specs.Facts.{HostFit};
 ghost use Rattle.night_parts.specs.Hush.{Hush};
 

@@ -67,6 +67,7 @@ pub fn words(
             let moved = Frame {
                 phase: after,
                 held: kept,
+                xmodem: was.xmodem,
             };
             listing::put(results, k, Note::Done, m.sdo, true);
             b.control = settled;
@@ -106,10 +107,12 @@ pub fn words(
         let count = count_after(b.sending.tx.count, store);
         let receiving = plan::received(b.receiving, receive);
         let control = plan::settled(plan.control, receiving.rx.count, false);
-        let ended = plan::concluded(plan.status, control, phase);
+        let ended = plan::concluded(was.xmodem, plan.status, control, phase);
+        let xmodem = plan::xmodem_after(b, phase);
         let frame = Frame {
             phase: ended,
             held: held,
+            xmodem: xmodem,
         };
         b.control = control;
         b.sending.tx.count = count;

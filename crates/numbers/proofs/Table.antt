@@ -1,16 +1,18 @@
 -- The P rows of 01 Numbers on both sides: what the definitions give is what 01 says.
 use mathlib.Core.Path.{_≡_, refl}
+use Rattle.command.specs.Layouts.{startBy}
+use Rattle.registers.specs.Spictrl.{isXmodemIn}
 use Rattle.base.specs.Bits.{val, odd, bit, flag, highFirst}
 use Rattle.base.specs.Pick.{pick}
 use Rattle.crc16.specs.Crc.{shift, crcBit, crcBits, crcWord, crcFrom, crcOf}
-use Rattle.command.specs.Layout.{write, registerWrite, rows, byNumber, decodeOurs}
+use Rattle.command.specs.Layout.{write, spans, registerWrite, softReset, rows, byNumber, fieldsOf, decodeBy}
 use Rattle.registers.specs.Raising.{raised}
-use Rattle.registers.specs.Registers.{blocking, err, statusOf, powerUpControl, table as registerTable, resetRegs, cleared, powerUpFlags}
+use Rattle.registers.specs.Registers.{blocking, err, statusOf, powerUpControl, tableOf, resetRegs, cleared, powerUpFlags, readOf}
 use Rattle.registers.specs.Writing.{modeAfter, writeStatus, writeMasked, writeOf}
 use Rattle.line.specs.Format.{checkBit, wordBit, pieceBit}
 use Rattle.line.specs.Reader.{runOn, shiftIn, atCheck, inGroup, hear}
 use Rattle.state.specs.Frame.{mineOf, owedBy, toCome, collectSound, replySound, phaseSound}
-use Rattle.state.specs.Power.{badControl, powerUp, powerUpBad}
+use Rattle.state.specs.Power.{badControl, powerUpIn, powerUpBadIn}
 use Rattle.state.specs.Queue.{noPlace, newPlace, waiting, wordsOf, moved, freed, firstUnread, claimed, returned, placesOf, placesIn, lacks}
 use Rattle.state.specs.Rings.{written, ringAfter}
 use Rattle.state.specs.Sending.{stored, done}
@@ -31,8 +33,8 @@ use Rattle.ticks.specs.Ticks.{blockedIn, starvedFlags, flagsSent, phaseAfter, c
 use Rattle.events.specs.Turn.{turned, turn}
 use Rattle.bridge.specs.Step.{step}
 use Rattle.drain.specs.Drain.{runOf, drain}
-use Rattle.numbers.specs.Numbers.{then, after, powerOn, frame, noteOf, statusAfter, onceCleared, onceForced, queued, ticksOf, ownBit, isEnd, endsNext, endFrom, endTickOf, table, given, said}
+use Rattle.numbers.specs.Numbers.{then, after, powerOn, frame, noteIn, registerIn, statusAfter, onceCleared, onceForced, queued, ticksOf, ownBit, isEnd, endsNext, endFrom, endTickOf, table, given, said}
 
 pub rows-hold : given table ≡ said table
-unfolding val odd bit flag highFirst pick shift crcBit crcBits crcWord crcFrom crcOf write registerWrite rows byNumber decodeOurs raised blocking err statusOf powerUpControl registerTable resetRegs cleared powerUpFlags modeAfter writeStatus writeMasked writeOf checkBit wordBit pieceBit runOn shiftIn atCheck inGroup hear mineOf owedBy toCome collectSound replySound phaseSound badControl powerUp powerUpBad noPlace newPlace waiting wordsOf moved freed firstUnread claimed returned written ringAfter stored done roleSound slotSound slotsBelow endSound pieceSound earSound marksSound isUnmarked choose bitSent wordSent queueSent senderAfter advanced finished sentBy tickSender placeSent commandSent wordRead endRead wordTaken atEnd ended takenBy tickReader began asksStore guard mineAfter enqueues clears forwarded forwardWord forwardBegun faulted opened isQuiet isTransmitClear isReceiveClear isRefused withWrite registerWord dataWord wrongCrc forwardClosed crcDue plannedIn planned releasedIn registersClosed clearedAway received settled concluded performed powered blockedIn starvedFlags flagsSent phaseAfter controlTicked tickNote tickEnds tickHears ticked reacted turned turn step runOf drain then after powerOn frame noteOf statusAfter onceCleared onceForced queued ticksOf ownBit isEnd endsNext endFrom endTickOf table given said placesOf placesIn lacks
+unfolding readOf val odd bit flag highFirst pick shift crcBit crcBits crcWord crcFrom crcOf write registerWrite softReset spans rows byNumber decodeBy fieldsOf raised blocking err statusOf powerUpControl tableOf resetRegs cleared powerUpFlags modeAfter writeStatus writeMasked writeOf checkBit wordBit pieceBit runOn shiftIn atCheck inGroup hear mineOf owedBy toCome collectSound replySound phaseSound badControl powerUpIn powerUpBadIn noPlace newPlace waiting wordsOf moved freed firstUnread claimed returned written ringAfter stored done roleSound slotSound slotsBelow endSound pieceSound earSound marksSound isUnmarked choose bitSent wordSent queueSent senderAfter advanced finished sentBy tickSender placeSent commandSent wordRead endRead wordTaken atEnd ended takenBy tickReader began asksStore guard mineAfter enqueues clears forwarded forwardWord forwardBegun faulted opened isQuiet isTransmitClear isReceiveClear isRefused withWrite registerWord dataWord wrongCrc forwardClosed crcDue plannedIn planned releasedIn registersClosed clearedAway received settled concluded startBy isXmodemIn performed powered blockedIn starvedFlags flagsSent phaseAfter controlTicked tickNote tickEnds tickHears ticked reacted turned turn step runOf drain then after powerOn frame noteIn registerIn statusAfter onceCleared onceForced queued ticksOf ownBit isEnd endsNext endFrom endTickOf table given said placesOf placesIn lacks
 rows-hold = refl

@@ -4,7 +4,7 @@ use mathlib.Core.Path.{_≡_, refl}
 use mathlib.Core.Bool.{Bool, true, false}
 use mathlib.Core.List.{List, [], _∷_}
 use Prim.Native.Nat.{ℕ}
-use Rattle.command.specs.Layouts.{Layout}
+use Rattle.command.specs.Layouts.{Layouts}
 use Rattle.registers.specs.Registers.{blocking}
 use Rattle.state.specs.Rings.{oldest}
 use Rattle.state.specs.declared.Deed.{Deed}
@@ -32,17 +32,17 @@ loud-not n d f k = go (faults n) refl
     go true e = never (clears d) (f e) k
     go false e = refl
 
-event-fault : (l : Layout) (c : Config) (e : Event) (w : ℕ) → clearing l c e ≡ false
+event-fault : (l : Layouts) (c : Config) (e : Event) (w : ℕ) → clearing l c e ≡ false
     → blocking (reacted l (c .bridge) e w (oldest (c .rx) (c .bridge .receiving .rx)) .bridge .control .flags) ≡ false
     → faults (reacted l (c .bridge) e w (oldest (c .rx) (c .bridge .receiving .rx)) .note) ≡ false
 unfolding reacted clocked planOf
-event-fault l c (Power good) w k f = unfold faults in refl
+event-fault l c (Power good layout) w k f = unfold faults in refl
 event-fault l c (Word word) w k f = loud-not _ _ (tame-word (c .bridge) l word _ .loud) k
 event-fault l c Release w k f = loud-not _ _ (tame-release (c .bridge) (c .bridge .frame .phase) .loud) k
 event-fault l c (Tick sin) w k f = fault-note (c .bridge) sin w f
 event-fault l c (ClockReading reading) w k f = unfold faults in refl
 
-module _ (l : Layout) (fits : LayoutFit l) where
+module _ (l : Layouts) (fits : LayoutFit l) where
   asked-fair : (c : Config) (e : Event) → Obeys c → FairAsAsked l c e → Fair l c e
   unfolding next turn turned
   asked-fair c e o a =

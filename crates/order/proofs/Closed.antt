@@ -3,12 +3,14 @@ use mathlib.Core.Path.{_≡_, refl, sym, subst}
 use mathlib.Core.Bool.{Bool, true, false}
 use mathlib.Core.List.{List, _∷_}
 use Prim.Native.Nat.{ℕ}
+use Rattle.layout.specs.declared.Layout.{Layout}
+use Rattle.layout.specs.declared.Layout.the-variants.{Ours}
 use Rattle.base.specs.Pick.{pick}
-use Rattle.command.specs.Layouts.{Layout, ours}
+use Rattle.command.specs.Layouts.{Layouts, layouts}
 use Rattle.line.specs.Format.{pieceLength}
-use Rattle.state.specs.Power.{powerUp, powerUpBad}
+use Rattle.state.specs.Power.{powerUpIn, powerUpBadIn}
 use Rattle.state.specs.Rings.{written}
-use Rattle.kept.proofs.Fits.{LayoutFit, ours-fits}
+use Rattle.kept.proofs.Fits.{LayoutFit, layouts-fit}
 use Rattle.events.specs.Events.{powered, reacted}
 use Rattle.events.specs.Turn.{turned, turn}
 use Rattle.events.specs.declared.Event.{Event}
@@ -20,54 +22,55 @@ use Rattle.order.specs.Demand.{Faithful}
 use Rattle.order.proofs.Order.{in-order, all-sent, exactly, exactly-all}
 use Rattle.order.proofs.Asked.{asked-premises}
 
-module _ (l : Layout) (fits : LayoutFit l) (tx rx : List ℕ) (stores : RightStores tx rx) where
-  faithful : (good : Bool) (es : List Event) → Premises l (powerOn good tx rx) es → Faithful l (powerOn good tx rx) es
-  faithful good es p = record {
-    in-order = in-order l fits good tx rx stores es p;
-    exactly = exactly l fits good tx rx stores es p;
-    all-sent = all-sent l fits good tx rx stores es p;
-    exactly-all = exactly-all l fits good tx rx stores es p;
+module _ (l : Layouts) (fits : LayoutFit l) (tx rx : List ℕ) (stores : RightStores tx rx) where
+  faithful : (good : Bool) (layout : Layout) (es : List Event) → Premises l (powerOn good layout tx rx) es → Faithful l (powerOn good layout tx rx) es
+  faithful good layout es p = record {
+    in-order = in-order l fits good layout tx rx stores es p;
+    exactly = exactly l fits good layout tx rx stores es p;
+    all-sent = all-sent l fits good layout tx rx stores es p;
+    exactly-all = exactly-all l fits good layout tx rx stores es p;
   }
 
   -- A power event leaves the power-up value and the stores as lent.
-  power-next : (first good : Bool) → next l (powerOn first tx rx) (Power good) ≡ powerOn good tx rx
+  power-next : (first good : Bool) (from layout : Layout) → next l (powerOn first from tx rx) (Power good layout) ≡ powerOn good layout tx rx
   unfolding next turn turned reacted written powerOn
-  power-next first good = rw (obeyed-turn l fits (powerOn first tx rx) (Power good) (power-obeys l fits first tx rx stores)) refl
+  power-next first good from layout = rw (obeyed-turn l fits (powerOn first from tx rx) (Power good layout) (power-obeys l fits first from tx rx stores)) refl
 
   -- At power-up nothing accepted is unsent, so a power event is within the premises there.
-  power-sent : (good : Bool) → AllSent (powerOn good tx rx .bridge .sending)
-  unfolding powerOn powered pick powerUp powerUpBad
-  power-sent true = record { idle-sender = refl; none-waits = refl }
-  power-sent false = record { idle-sender = refl; none-waits = refl }
+  power-sent : (good : Bool) (layout : Layout) → AllSent (powerOn good layout tx rx .bridge .sending)
+  unfolding powerOn powered pick powerUpIn powerUpBadIn
+  power-sent true layout = record { idle-sender = refl; none-waits = refl }
+  power-sent false layout = record { idle-sender = refl; none-waits = refl }
 
-  power-fair : (first good : Bool) → Fair l (powerOn first tx rx) (Power good)
+  power-fair : (first good : Bool) (from layout : Layout) → Fair l (powerOn first from tx rx) (Power good layout)
   unfolding turn turned reacted faults
-  power-fair first good =
+  power-fair first good from layout =
       record {
         typed = tt;
-        no-fault = rw (obeyed-turn l fits (powerOn first tx rx) (Power good) (power-obeys l fits first tx rx stores)) refl;
-        no-loss = λ h. power-sent first;
+        no-fault = rw (obeyed-turn l fits (powerOn first from tx rx) (Power good layout) (power-obeys l fits first from tx rx stores)) refl;
+        no-loss = λ h. power-sent first from;
       }
 
-  script-premises : (first good : Bool) (es : List Event) → Premises l (powerOn good tx rx) es → Premises l (powerOn first tx rx) (Power good ∷ es)
-  script-premises first good es p =
-      (power-fair first good, subst (λ (c : Config). Premises l c es) (sym (power-next first good)) p)
+  script-premises : (first good : Bool) (from layout : Layout) (es : List Event) → Premises l (powerOn good layout tx rx) es
+      → Premises l (powerOn first from tx rx) (Power good layout ∷ es)
+  script-premises first good from layout es p =
+      (power-fair first good from layout, subst (λ (c : Config). Premises l c es) (sym (power-next first good from layout)) p)
 
-module _ (good : Bool) (tx rx : List ℕ) (stores : RightStores tx rx) (es : List Event) where
+module _ (good : Bool) (layout : Layout) (tx rx : List ℕ) (stores : RightStores tx rx) (es : List Event) where
   -- under as little as the proof needs
-  pub demand-3 : Premises ours (powerOn good tx rx) es → Faithful ours (powerOn good tx rx) es
-  demand-3 p = faithful ours ours-fits tx rx stores good es p
+  pub demand-3 : Premises layouts (powerOn good layout tx rx) es → Faithful layouts (powerOn good layout tx rx) es
+  demand-3 p = faithful layouts layouts-fit tx rx stores good layout es p
 
   -- under the demand's own premises
-  asked : AskedPremises ours (powerOn good tx rx) es → Premises ours (powerOn good tx rx) es
-  asked a = asked-premises ours ours-fits (powerOn good tx rx) es (power-obeys ours ours-fits good tx rx stores) a
+  asked : AskedPremises layouts (powerOn good layout tx rx) es → Premises layouts (powerOn good layout tx rx) es
+  asked a = asked-premises layouts layouts-fit (powerOn good layout tx rx) es (power-obeys layouts layouts-fit good layout tx rx stores) a
 
-  pub demand-3-as-asked : AskedPremises ours (powerOn good tx rx) es → Faithful ours (powerOn good tx rx) es
+  pub demand-3-as-asked : AskedPremises layouts (powerOn good layout tx rx) es → Faithful layouts (powerOn good layout tx rx) es
   demand-3-as-asked a = demand-3 (asked a)
 
-  -- "It begins from the power-up value": a script whose first event is a power-up, good or bad
-  pub demand-3-script : Premises ours (powerOn good tx rx) es → Faithful ours (powerOn true tx rx) (Power good ∷ es)
-  demand-3-script p = faithful ours ours-fits tx rx stores true (Power good ∷ es) (script-premises ours ours-fits tx rx stores true good es p)
+  -- "It begins from the power-up value": a script whose first event is a power-up, good or bad, in either layout
+  pub demand-3-script : Premises layouts (powerOn good layout tx rx) es → Faithful layouts (powerOn true Ours tx rx) (Power good layout ∷ es)
+  demand-3-script p = faithful layouts layouts-fit tx rx stores true Ours (Power good layout ∷ es) (script-premises layouts layouts-fit tx rx stores true good Ours layout es p)
 
-  pub demand-3-script-as-asked : AskedPremises ours (powerOn good tx rx) es → Faithful ours (powerOn true tx rx) (Power good ∷ es)
+  pub demand-3-script-as-asked : AskedPremises layouts (powerOn good layout tx rx) es → Faithful layouts (powerOn true Ours tx rx) (Power good layout ∷ es)
   demand-3-script-as-asked a = demand-3-script (asked a)

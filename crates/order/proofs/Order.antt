@@ -4,7 +4,8 @@ use mathlib.Core.Path.{_≡_}
 use mathlib.Core.Bool.{Bool}
 use mathlib.Core.List.{List, [], _∷_, _++_, append-assoc, append-nil}
 use Prim.Native.Nat.{ℕ}
-use Rattle.command.specs.Layouts.{Layout}
+use Rattle.layout.specs.declared.Layout.{Layout}
+use Rattle.command.specs.Layouts.{Layouts}
 use Rattle.line.specs.Reader.{readLine, Sent}
 use Rattle.events.specs.declared.Event.{Event}
 use Rattle.kept.proofs.Fits.{LayoutFit}
@@ -19,7 +20,7 @@ use Rattle.order.proofs.Sending.{inTx, none-counted, at-rest}
 use Rattle.order.proofs.Frames.{listed-kept}
 use Rattle.order.proofs.Steps.{Between, between-fresh, between-turn}
 
-module _ (l : Layout) (fits : LayoutFit l) where
+module _ (l : Layouts) (fits : LayoutFit l) where
   pub between-step : (c : Config) (bits : List Bool) (g : Log) (e : Event) → Between c bits g → Obeys c → Fair l c e
       → Between (next l c e) (bits ++ lineBit e (outOf l c e .answer .sout)) (logged g (planOf l c e))
   unfolding next
@@ -34,9 +35,9 @@ module _ (l : Layout) (fits : LayoutFit l) where
       rw (← (append-assoc bits (lineBit e (outOf l c e .answer .sout)) (soutOf l (next l c e) es)))
       (between-run (next l c e) _ _ es (between-step c bits g e i o (p .0)) (step-obeys l fits c e o) (p .1))
 
-pub between-power : (good : Bool) (tx rx : List ℕ) → RightStores tx rx → Between (powerOn good tx rx) [] noLog
+pub between-power : (good : Bool) (layout : Layout) (tx rx : List ℕ) → RightStores tx rx → Between (powerOn good layout tx rx) [] noLog
 unfolding powerOn concat lengths joined
-between-power good tx rx r = between-fresh good tx rx [] [] r exact-power
+between-power good layout tx rx r = between-fresh good layout tx rx [] [] r exact-power
 
 -- What the end of a run says of its line.
 in-order-between : (c : Config) (bits : List Bool) (g : Log) → Between c bits g → Sent (readLine bits) (listed g)
@@ -53,35 +54,35 @@ whole-between c bits g i d =
     (exact-whole (s .sender) (inTx s (c .tx)) bits _ _ (rw (none-counted s d) at (i .holds .exact)) (r .0) (r .1) (r .2))
 
 -- What begins a run under the premises is one: the theorems below speak of every moment of a run.
-pub premises-before : (l : Layout) (c : Config) (es rest : List Event) → Premises l c (es ++ rest) → Premises l c es
+pub premises-before : (l : Layouts) (c : Config) (es rest : List Event) → Premises l c (es ++ rest) → Premises l c es
 premises-before l c [] rest p = tt
 premises-before l c (e ∷ es) rest p = (p .0, premises-before l (next l c e) es rest (p .1))
 
 -- Every run from power-up, by a layout whose commands are within the ranges of the record rules.
-module _ (l : Layout) (fits : LayoutFit l) (good : Bool) (tx rx : List ℕ) (stores : RightStores tx rx) (es : List Event)
-    (p : Premises l (powerOn good tx rx) es) where
-  at-end : Between (endOf l (powerOn good tx rx) es) (soutOf l (powerOn good tx rx) es) (logBy l noLog (powerOn good tx rx) es)
-  at-end = between-run l fits (powerOn good tx rx) [] noLog es (between-power good tx rx stores) (power-obeys l fits good tx rx stores) p
+module _ (l : Layouts) (fits : LayoutFit l) (good : Bool) (layout : Layout) (tx rx : List ℕ) (stores : RightStores tx rx) (es : List Event)
+    (p : Premises l (powerOn good layout tx rx) es) where
+  at-end : Between (endOf l (powerOn good layout tx rx) es) (soutOf l (powerOn good layout tx rx) es) (logBy l noLog (powerOn good layout tx rx) es)
+  at-end = between-run l fits (powerOn good layout tx rx) [] noLog es (between-power good layout tx rx stores) (power-obeys l fits good layout tx rx stores) p
 
   -- The commands finished on the line are the first so many accepted, in order, every word unchanged; the one under way shows the first words
   -- of the next.
-  pub in-order : Sent (readLine (soutOf l (powerOn good tx rx) es)) (acceptedIn l (powerOn good tx rx) es)
+  pub in-order : Sent (readLine (soutOf l (powerOn good layout tx rx) es)) (acceptedIn l (powerOn good layout tx rx) es)
   unfolding acceptedIn
   in-order = in-order-between _ _ _ at-end
 
   -- The line's bits, at every moment, and once all are sent.
   pub exactly :
-      Exactly (soutOf l (powerOn good tx rx) es) (endOf l (powerOn good tx rx) es .bridge .sending .sender)
-      (acceptedIn l (powerOn good tx rx) es)
+      Exactly (soutOf l (powerOn good layout tx rx) es) (endOf l (powerOn good layout tx rx) es .bridge .sending .sender)
+      (acceptedIn l (powerOn good layout tx rx) es)
   unfolding acceptedIn
   exactly = exactly-between _ _ _ at-end
 
-  pub exactly-all : AllSent (endOf l (powerOn good tx rx) es .bridge .sending)
-      → Whole (soutOf l (powerOn good tx rx) es) (acceptedIn l (powerOn good tx rx) es)
+  pub exactly-all : AllSent (endOf l (powerOn good layout tx rx) es .bridge .sending)
+      → Whole (soutOf l (powerOn good layout tx rx) es) (acceptedIn l (powerOn good layout tx rx) es)
   unfolding acceptedIn
   exactly-all d = whole-between _ _ _ at-end d
 
   -- Once all are sent the line shows them all.
-  pub all-sent : AllSent (endOf l (powerOn good tx rx) es .bridge .sending)
-      → readLine (soutOf l (powerOn good tx rx) es) .finished ≡ acceptedIn l (powerOn good tx rx) es
+  pub all-sent : AllSent (endOf l (powerOn good layout tx rx) es .bridge .sending)
+      → readLine (soutOf l (powerOn good layout tx rx) es) .finished ≡ acceptedIn l (powerOn good layout tx rx) es
   all-sent d = whole-read _ _ (exactly-all d)

@@ -9,7 +9,7 @@ use lib.Dec.{ltb, leb, eqb}
 use lib.ListN.{length, length-append}
 use borrow.Author.Tests.{ltb-true, ltb-false, eqb-true, eqb-false, not-true}
 use Rattle.base.specs.Pick.{pick, pick-keeps, and-l, and-r}
-use Rattle.command.specs.Layouts.{Layout}
+use Rattle.command.specs.Layouts.{Layouts}
 use Rattle.command.specs.declared.Command.{Command}
 use Rattle.command.specs.declared.Command.the-variants.{Filler, Malformed, Forward, DataRead, RegisterWrite, RegisterRead, SoftReset}
 use Rattle.registers.specs.Registers.{blocking}
@@ -80,7 +80,7 @@ module _ (b : Bridge) (g : Log) (S K : List ℕ) (spent : Spent b S K) where
     wrong-crc crc mine z =
         pick-keeps (Good b g S K) _ _ _ (λ t k. over-nothing (b .sending) g S K mine h z) (λ t k. quiet-over)
 
-    read-closed : (l : Layout) (crc right : Bool) (reply : Reply) → Good b g S K (readClosed l b crc right reply)
+    read-closed : (l : Layouts) (crc right : Bool) (reply : Reply) → Good b g S K (readClosed l b crc right reply)
     unfolding readClosed
     read-closed l crc right reply =
         pick-keeps (Good b g S K) _ _ _ (λ t k. quiet _ (rests-answering reply _))
@@ -97,7 +97,7 @@ module _ (b : Bridge) (g : Log) (S K : List ℕ) (spent : Spent b S K) where
         pick-keeps (Good b g S K) _ _ _
         (λ t k. goes-reset (b .sending) g S K Idle true rests-idle (λ e. refl) h (k .no-loss refl) (none-left (k .no-loss refl))) (λ t k. quiet-over)
 
-    answers : (l : Layout) (reply : Reply) (sum x : ℕ) → Good b g S K (answered l b reply sum x)
+    answers : (l : Layouts) (reply : Reply) (sum x : ℕ) → Good b g S K (answered l b reply sum x)
     unfolding answered answerWith registerAnswered dataAnswered
     answers l (Status w) sum x k = quiet _ (rests-answering _ _)
     answers l (Data left) sum x k =
@@ -233,7 +233,7 @@ module _ (b : Bridge) (g : Log) (S K : List ℕ) (spent : Spent b S K) where
     data-word SoftReset w small due h k = quiet (h .0) Idle rests-idle
 
   module _ (got mine : ℕ) (released blocked : Bool) where
-    crc-due : (l : Layout) (command : Command) (right : Bool) → Reach → dataWords command ≤ got
+    crc-due : (l : Layouts) (command : Command) (right : Bool) → Reach → dataWords command ≤ got
         → InFrame command got mine released blocked g S K → Good b g S K (crcDue l b command mine blocked right)
     unfolding crcDue InFrame
     crc-due l Filler right reach all h k = quiet (h .0) Idle rests-idle
@@ -247,10 +247,10 @@ module _ (b : Bridge) (g : Log) (S K : List ℕ) (spent : Spent b S K) where
     crc-due l SoftReset right reach all h k =
         pick-keeps (Good b g S K) _ _ _ (λ t. reset-closed (h .0)) (λ t. wrong-crc (h .0) true mine (h .1)) k
 
-  planned-in : (l : Layout) (ph : Phase) (w x : ℕ) → w < 65536 → Reach → blocking (b .control .flags) ≡ false → Kept ph g S K
+  planned-in : (l : Layouts) (ph : Phase) (w x : ℕ) → w < 65536 → Reach → blocking (b .control .flags) ≡ false → Kept ph g S K
       → Good b g S K (plannedIn l b ph w x)
   unfolding plannedIn Kept
-  planned-in l Idle w x small reach f h k = begins h (l .decode w) _ f k
+  planned-in l Idle w x small reach f h k = begins h (l .decode (b .control .regs .layout) w) _ f k
   planned-in l (Collecting command got sum mine released blocked) w x small reach f h k =
       pick-keeps (Good b g S K) _ _ _ (λ t. data-word _ command w small (ltb-true _ _ t) h)
       (λ t. crc-due got mine released blocked l command _ reach (ltb-false _ _ t) h) k
@@ -258,7 +258,7 @@ module _ (b : Bridge) (g : Log) (S K : List ℕ) (spent : Spent b S K) where
   planned-in l Discarding w x small reach f h k = quiet h Discarding rests-discarding
 
   -- A host word.
-  pub goes-word : (l : Layout) (w x : ℕ) → w < 65536 → Reach → blocking (b .control .flags) ≡ false → Kept (b .frame .phase) g S K
+  pub goes-word : (l : Layouts) (w x : ℕ) → w < 65536 → Reach → blocking (b .control .flags) ≡ false → Kept (b .frame .phase) g S K
       → Allowed (b .sending) (planned l b w x .deed) (planned l b w x .note) → GoesBy (b .sending) g S K (planned l b w x)
   unfolding planned
   goes-word l w x small reach f h k = planned-in l (b .frame .phase) w x small reach f h k

@@ -5,12 +5,13 @@ use mathlib.Core.List.{List, [], _∷_, _++_, append-nil}
 use Prim.Native.Nat.{ℕ, _+_, _≤_}
 use native.Mathlib.Omega.{arith}
 use lib.ListN.{length}
+use Rattle.layout.specs.declared.Layout.{Layout}
 use Rattle.base.specs.Pick.{pick, pick-keeps}
-use Rattle.command.specs.Layouts.{Layout}
+use Rattle.command.specs.Layouts.{Layouts}
 use Rattle.line.specs.declared.Piece.the-variants.{Pause}
 use Rattle.registers.specs.Registers.{blocking, powerUpControl, powerUpFlags}
 use Rattle.registers.specs.declared.Control.{Control}
-use Rattle.state.specs.Power.{powerUp, badControl, powerUpBad}
+use Rattle.state.specs.Power.{powerUpIn, badControl, powerUpBadIn}
 use Rattle.state.specs.Queue.{waiting}
 use Rattle.state.specs.Rings.{oldest, written}
 use Rattle.state.specs.declared.Clock.{Clock}
@@ -54,50 +55,50 @@ pub record Between (c : Config) (bits : List Bool) (g : Log) : Type 0 where
   pub rx-is : length (c .rx) ≡ 256
 
 -- Power-up, with these commands on the line and accepted.
-holds-power : (good : Bool) (tx : List ℕ) (bits : List Bool) (S K : List ℕ) → length tx ≡ 512 → Exact (sends Pause 0 0 0) [] [] bits S K
-    → Holds (powered good .sending) tx bits S K
-unfolding powered pick powerUp powerUpBad view waiting countsOf
-holds-power true tx bits S K t x =
+holds-power : (good : Bool) (layout : Layout) (tx : List ℕ) (bits : List Bool) (S K : List ℕ) → length tx ≡ 512 → Exact (sends Pause 0 0 0) [] [] bits S K
+    → Holds (powered good layout .sending) tx bits S K
+unfolding powered pick powerUpIn powerUpBadIn view waiting countsOf
+holds-power true layout tx bits S K t x =
     record { exact = x; head = omega arith; cells-are = t; queue = record { order = omega arith; most = omega arith; eight = refl } }
-holds-power false tx bits S K t x =
+holds-power false layout tx bits S K t x =
     record { exact = x; head = omega arith; cells-are = t; queue = record { order = omega arith; most = omega arith; eight = refl } }
 
-idle-power : (good : Bool) (g : Log) (S K : List ℕ) → Shut g S K → Kept (powered good .frame .phase) g S K
-unfolding powered pick powerUp powerUpBad Kept
-idle-power true g S K h = h
-idle-power false g S K h = h
+idle-power : (good : Bool) (layout : Layout) (g : Log) (S K : List ℕ) → Shut g S K → Kept (powered good layout .frame .phase) g S K
+unfolding powered pick powerUpIn powerUpBadIn Kept
+idle-power true layout g S K h = h
+idle-power false layout g S K h = h
 
-clear-power : (good : Bool) → blocking (powered good .control .flags) ≡ false
-unfolding powered pick powerUp powerUpBad powerUpControl powerUpFlags badControl blocking
-clear-power true = refl
-clear-power false = refl
+clear-power : (good : Bool) (layout : Layout) → blocking (powered good layout .control .flags) ≡ false
+unfolding powered pick powerUpIn powerUpBadIn powerUpControl powerUpFlags badControl blocking
+clear-power true layout = refl
+clear-power false layout = refl
 
 -- a log with these commands and no frame
 abbrev pub logOf : List (List ℕ) → Log
 logOf D = record { closed = D; words = []; accepted = false }
 
-pub between-fresh : (good : Bool) (tx rx : List ℕ) (bits : List Bool) (D : List (List ℕ)) → RightStores tx rx
-    → Exact (sends Pause 0 0 0) [] [] bits (concat D) (lengths D) → Between (powerOn good tx rx) bits (logOf D)
+pub between-fresh : (good : Bool) (layout : Layout) (tx rx : List ℕ) (bits : List Bool) (D : List (List ℕ)) → RightStores tx rx
+    → Exact (sends Pause 0 0 0) [] [] bits (concat D) (lengths D) → Between (powerOn good layout tx rx) bits (logOf D)
 unfolding powerOn
-between-fresh good tx rx bits D r x =
+between-fresh good layout tx rx bits D r x =
     record {
       S = concat D;
       K = lengths D;
-      holds = holds-power good tx bits _ _ (r .tx-is) x;
-      kept = idle-power good (logOf D) _ _ (record { no-words = refl; not-accepted = refl; stored-are = refl; counts-are = refl });
-      no-fault = clear-power good;
+      holds = holds-power good layout tx bits _ _ (r .tx-is) x;
+      kept = idle-power good layout (logOf D) _ _ (record { no-words = refl; not-accepted = refl; stored-are = refl; counts-are = refl });
+      no-fault = clear-power good layout;
       rx-is = r .rx-is;
     }
 
 -- The phase after a plan.
-kept-concluded : (l : Layout) (status : Bool) (c : Control) (ph : Phase) (g : Log) (S K : List ℕ) → (status ≡ true → ph ≡ Idle)
-    → Kept ph g S K → Kept (concluded l status c ph) g S K
+kept-concluded : (l : Layouts) (xmodem status : Bool) (c : Control) (ph : Phase) (g : Log) (S K : List ℕ) → (status ≡ true → ph ≡ Idle)
+    → Kept ph g S K → Kept (concluded l xmodem status c ph) g S K
 unfolding concluded Kept
-kept-concluded l status c ph g S K e h =
+kept-concluded l xmodem status c ph g S K e h =
     pick-keeps (λ (q : Phase). Kept q g S K) _ _ _
     (λ t. pick-keeps (λ (q : Phase). Kept q g S K) _ _ _ (λ u. rw (e t) at h) (λ u. rw (e t) at h)) (λ t. h)
 
-module _ (l : Layout) (c : Config) (bits : List Bool) (g : Log) (i : Between c bits g) where
+module _ (l : Layouts) (c : Config) (bits : List Bool) (g : Log) (i : Between c bits g) where
   reach : (D : List (List ℕ)) (ws : List ℕ) → i .S ≡ concat D ++ ws → i .K ≡ lengths D → length ws ≤ c .bridge .sending .tx .count
   reach D ws s k =
       omega (
@@ -121,7 +122,7 @@ module _ (l : Layout) (c : Config) (bits : List Bool) (g : Log) (i : Between c b
         holds =
             holds-done _ _ bits _ (i .K) (holds-stored (c .bridge .sending) (c .tx) bits (i .S) (i .K) (i .holds) (p .store) (h .storable))
             (p .deed) (h .feasible);
-        kept = kept-concluded l (p .status) _ (p .phase) _ _ _ (h .ends) (h .kept);
+        kept = kept-concluded l _ (p .status) _ (p .phase) _ _ _ (h .ends) (h .kept);
         no-fault = f;
         rx-is = i .rx-is;
       }
@@ -164,11 +165,11 @@ module _ (l : Layout) (c : Config) (bits : List Bool) (g : Log) (i : Between c b
       }
 
   -- A power-up once all is sent: the accepted list is what the line shows.
-  between-again : (good : Bool) → AllSent (c .bridge .sending) → Between (powerOn good (c .tx) (c .rx)) bits (logOf (listed g))
-  between-again good a =
+  between-again : (good : Bool) (layout : Layout) → AllSent (c .bridge .sending) → Between (powerOn good layout (c .tx) (c .rx)) bits (logOf (listed g))
+  between-again good layout a =
       let s = c .bridge .sending in
       let r = at-rest (s .sender) (a .idle-sender) in
-      between-fresh good (c .tx) (c .rx) bits (listed g) (record { tx-is = i .holds .cells-are; rx-is = i .rx-is })
+      between-fresh good layout (c .tx) (c .rx) bits (listed g) (record { tx-is = i .holds .cells-are; rx-is = i .rx-is })
       (rw (listed-kept (c .bridge .frame .phase) g _ _ (i .kept))
       (exact-again (s .sender) (inTx s (c .tx)) bits _ _ (rw (none-counted s a) at (i .holds .exact)) (r .0) (r .1) (r .2)))
 
@@ -177,8 +178,8 @@ module _ (l : Layout) (c : Config) (bits : List Bool) (g : Log) (i : Between c b
       → (losing l c e ≡ true → AllSent (c .bridge .sending))
       → Between (leftBy o) (bits ++ lineBit e (o .answer .sout)) (logged g (planOf l c e))
   unfolding turn turned reacted lineBit isPower planOf
-  between-turn (Power good) o q t n k =
-      rw (q, append-nil) (unfold powerOn written logged came accepts collects settle listed in (rw (or-none (g .accepted) false refl) (between-again good (k refl))))
+  between-turn (Power good layout) o q t n k =
+      rw (q, append-nil) (unfold powerOn written logged came accepts collects settle listed in (rw (or-none (g .accepted) false refl) (between-again good layout (k refl))))
   between-turn (Word w) o q t n k =
       let x = oldest (c .rx) (c .bridge .receiving .rx) in
       let f : faults (planOf l c (Word w) .note) ≡ false = rw q at n in

@@ -4,7 +4,7 @@ use mathlib.Core.Bool.{Bool, true, false, not, _&&_, _||_}
 use mathlib.Core.List.{List, [], _∷_}
 use borrow.Author.Tests.{ltb-true, eqb-true, not-true}
 use Rattle.base.specs.Pick.{and-l, and-r}
-use Rattle.command.specs.Layouts.{Layout}
+use Rattle.command.specs.Layouts.{Layouts}
 use Rattle.state.specs.Sending.{idle}
 use Rattle.state.specs.declared.Sending.{Sending}
 use Rattle.events.specs.declared.Event.{Event}
@@ -14,7 +14,7 @@ use Rattle.order.specs.Premises.{Typed, losing, Fair, Premises, typed, f
 
 is-typed : (e : Event) → typed e ≡ true → Typed e
 unfolding typed
-is-typed (Power good) h = tt
+is-typed (Power good layout) h = tt
 is-typed (Word w) h = ltb-true w 65536 h
 is-typed Release h = tt
 is-typed (Tick sin) h = tt
@@ -35,7 +35,7 @@ either : (a c : Bool) → (not a || c) ≡ true → a ≡ true → c ≡ true
 either true c h k = h
 either false c h k = cc
 
-module _ (l : Layout) where
+module _ (l : Layouts) where
   is-fair : (c : Config) (e : Event) → fair l c e ≡ true → Fair l c e
   unfolding fair
   is-fair c e h =

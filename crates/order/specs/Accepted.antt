@@ -4,7 +4,7 @@ use mathlib.Core.Bool.{Bool, true, false, _||_}
 use mathlib.Core.List.{List, [], _∷_, _++_}
 use Prim.Native.Nat.{ℕ}
 use lib.Dec.{ltb}
-use Rattle.command.specs.Layouts.{Layout}
+use Rattle.command.specs.Layouts.{Layouts}
 use Rattle.state.specs.Rings.{oldest}
 use Rattle.state.specs.declared.Deed.{Deed}
 use Rattle.state.specs.declared.Deed.the-variants.{Leave, Enqueue, TakeBack, ClearAll, ResetAll}
@@ -22,8 +22,8 @@ use Rattle.events.specs.declared.Event.the-variants.{Power, Word, Release, Tick
 use Rattle.bridge.specs.Runs.{Config, next}
 
 -- what the host's side does at an event: at a tick and at a clock reading, nothing
-unfoldable pub planOf : Layout → Config → Event → Plan
-planOf l c (Power good) = plain (c .bridge) Idle Done
+unfoldable pub planOf : Layouts → Config → Event → Plan
+planOf l c (Power good layout) = plain (c .bridge) Idle Done
 planOf l c (Word w) = planned l (c .bridge) w (oldest (c .rx) (c .bridge .receiving .rx))
 planOf l c Release = releasedIn (c .bridge) (c .bridge .frame .phase)
 planOf l c (Tick sin) = plain (c .bridge) (c .bridge .frame .phase) Done
@@ -68,12 +68,12 @@ settle false closed ws accepted = record { closed = joined accepted closed ws; w
 unfoldable pub logged : Log → Plan → Log
 logged g p = settle (collects (p .phase)) (g .closed) (came (g .words) (p .store)) (g .accepted || accepts (p .deed))
 
-unfoldable pub logBy : Layout → Log → Config → List Event → Log
+unfoldable pub logBy : Layouts → Log → Config → List Event → Log
 logBy l g c [] = g
 logBy l g c (e ∷ es) = logBy l (logged g (planOf l c e)) (next l c e) es
 
 unfoldable pub listed : Log → List (List ℕ)
 listed g = joined (g .accepted) (g .closed) (g .words)
 
-unfoldable pub acceptedIn : Layout → Config → List Event → List (List ℕ)
+unfoldable pub acceptedIn : Layouts → Config → List Event → List (List ℕ)
 acceptedIn l c es = listed (logBy l noLog c es)

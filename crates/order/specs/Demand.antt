@@ -2,14 +2,14 @@
 -- Assumes nothing.
 use mathlib.Core.Path.{_≡_}
 use mathlib.Core.List.{List}
-use Rattle.command.specs.Layouts.{Layout}
+use Rattle.command.specs.Layouts.{Layouts}
 use Rattle.line.specs.Reader.{readLine, Sent}
 use Rattle.events.specs.declared.Event.{Event}
 use Rattle.bridge.specs.Runs.{Config, endOf, soutOf, AllSent}
 use Rattle.order.specs.Accepted.{acceptedIn}
 use Rattle.order.specs.Exactly.{Exactly, Whole}
 
-pub record Faithful (l : Layout) (c : Config) (es : List Event) : Type 0 where
+pub record Faithful (l : Layouts) (c : Config) (es : List Event) : Type 0 where
   -- at every moment, as a reader of the line sees it and as the bits are
   pub in-order : Sent (readLine (soutOf l c es)) (acceptedIn l c es)
   pub exactly : Exactly (soutOf l c es) (endOf l c es .bridge .sending .sender) (acceptedIn l c es)

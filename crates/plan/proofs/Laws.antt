@@ -1,12 +1,14 @@
 -- A plan carried out, by its parts, as the proofs of src/lib.rt ask them. Assumes nothing.
-use mathlib.Core.Path.{_≡_, refl}
-use mathlib.Core.Bool.{false}
+use mathlib.Core.Path.{_≡_, refl, sym, _∙_, ap₂}
+use mathlib.Core.Bool.{Bool, true, false, _&&_}
 use Prim.Native.Nat.{ℕ, _/_, _%_}
 use native.Mathlib.Omega.{arith}
 use lib.Dec.{eqb}
 use Rattle.base.specs.Bits.{odd, bit}
-use Rattle.plan.specs.Plan.{clearedAway, received, settled, concluded, performed}
-use Rattle.command.specs.Layouts.{ours}
+use Rattle.base.specs.Pick.{pick-true, pick-false}
+use Rattle.plan.specs.Plan.{clearedAway, received, settled, concluded, awaitsCommand, isCollecting, xmodemAfter, performed}
+use Rattle.command.specs.Layouts.{layouts}
+use Rattle.registers.specs.Spictrl.{isXmodem}
 use Rattle.registers.specs.declared.Control.{Control}
 use Rattle.state.specs.Facts.{RingFit, Doable}
 use Rattle.state.specs.declared.Deed.{Deed}
@@ -35,13 +37,21 @@ unfolding received
 to-popped r v ring h k = rw (h, k)
 
 -- a plan carried out, by its parts
-pub to-performed : (b : Bridge) (clock : Clock) (p : Plan) (s t : Sending) (q r : Receiving) (c : Control) (f : Phase)
+pub to-performed : (b : Bridge) (clock : Clock) (p : Plan) (s t : Sending) (q r : Receiving) (c : Control) (f : Phase) (x : Bool)
     → s ≡ stored (b .sending) (p .store) → t ≡ done s (p .deed) → q ≡ clearedAway (b .receiving) (p .deed) → r ≡ received q (p .receive)
-    → c ≡ settled (p .control) (r .rx .count) false → f ≡ concluded ours (p .status) c (p .phase)
-    → _≡_ {A = Bridge} (record { control = c; sending = t; receiving = r; frame = record { phase = f; held = p .held }; clock = clock })
-    (performed ours b clock p)
+    → c ≡ settled (p .control) (r .rx .count) false → f ≡ concluded layouts (b .frame .xmodem) (p .status) c (p .phase) → x ≡ xmodemAfter b (p .phase)
+    → _≡_ {A = Bridge} (record { control = c; sending = t; receiving = r; frame = record { phase = f; held = p .held; xmodem = x }; clock = clock })
+    (performed layouts b clock p)
 unfolding performed
-to-performed b clock p s t q r c f hs ht hq hr hc hf = cc
+to-performed b clock p s t q r c f x hs ht hq hr hc hf hx = cc
+
+-- the algorithm of a frame that is opened, and of every other
+module _ (b : Bridge) (after : Phase) (t u x : Bool) (e : t ≡ isCollecting after) (f : u ≡ awaitsCommand (b .frame .phase)) where
+  pub to-opened : (t && u) ≡ true → x ≡ isXmodem (b .control .regs) → x ≡ xmodemAfter b after
+  to-opened h k = pick-true _ _ _ _ (sym (ap₂ (λ (p q : Bool). p && q) e f) ∙ h) k
+
+  pub to-unopened : (t && u) ≡ false → x ≡ b .frame .xmodem → x ≡ xmodemAfter b after
+  to-unopened h k = pick-false _ _ _ _ (sym (ap₂ (λ (p q : Bool). p && q) e f) ∙ h) k
 
 -- what a plan's parts keep
 pub told-doable : (s t : Sending) (d : Deed) → s ≡ t → Doable t d → Doable s d

@@ -1,12 +1,13 @@
 -- A host's plan and how it is carried out (01 Frames; Registers, "Transmit clear", "RX clear", "Soft reset"; The line, DRDY). Assumes nothing.
-use mathlib.Core.Bool.{Bool, true, false, _||_}
+use mathlib.Core.Bool.{Bool, true, false, _&&_, _||_}
 use Prim.Native.Nat.{ℕ}
 use lib.Dec.{ltb, eqb}
 use Rattle.base.specs.Pick.{pick}
 use Rattle.base.specs.Bits.{bit}
-use Rattle.command.specs.Layouts.{Layout}
+use Rattle.command.specs.Layouts.{Layouts}
 use Rattle.line.specs.declared.Ear.the-variants.{Quiet}
 use Rattle.registers.specs.Registers.{statusOf}
+use Rattle.registers.specs.Spictrl.{isXmodem}
 use Rattle.registers.specs.declared.Control.{Control}
 use Rattle.state.specs.Rings.{rxSize, popped, emptied}
 use Rattle.state.specs.Sending.{stored, done}
@@ -16,7 +17,7 @@ use Rattle.state.specs.declared.Deed.{Deed}
 use Rattle.state.specs.declared.Deed.the-variants.{Leave, Enqueue, TakeBack, ClearAll, ResetAll}
 use Rattle.state.specs.declared.Note.{Note}
 use Rattle.state.specs.declared.Phase.{Phase}
-use Rattle.state.specs.declared.Phase.the-variants.{Idle, Answering}
+use Rattle.state.specs.declared.Phase.the-variants.{Idle, Collecting, Answering, Discarding}
 use Rattle.state.specs.declared.Receiving.{Receiving}
 use Rattle.state.specs.declared.Reply.the-variants.{Status}
 use Rattle.state.specs.declared.Store.the-variants.{Keep}
@@ -77,8 +78,25 @@ settled c count ended = record {
 }
 
 -- "answer STATUS and its CRC .. unless SPICTRL bit 0 is 1, both taken at the CRC word after its effects"
-unfoldable pub concluded : Layout → Bool → Control → Phase → Phase
-concluded l status c p = pick status (pick (bit 0 (c .regs .spictrl)) Idle (Answering (Status (statusOf c)) (l .crcStart))) p
+unfoldable pub concluded : Layouts → Bool → Bool → Control → Phase → Phase
+concluded l xmodem status c p = pick status (pick (bit 0 (c .regs .spictrl)) Idle (Answering (Status (statusOf c)) (l .crcStart xmodem))) p
+
+abbrev pub awaitsCommand : Phase → Bool
+awaitsCommand Idle = true
+awaitsCommand (Collecting command got sum mine released blocked) = false
+awaitsCommand (Answering reply sum) = false
+awaitsCommand Discarding = false
+
+abbrev pub isCollecting : Phase → Bool
+isCollecting Idle = false
+isCollecting (Collecting command got sum mine released blocked) = true
+isCollecting (Answering reply sum) = false
+isCollecting Discarding = false
+
+-- "After changing the CRC algorithm, the next SPI command uses the new algorithm" (001 7.5.3): a frame keeps, for its CRC word and its answer's CRC,
+-- the one in force at its command word. 02 item 7
+abbrev pub xmodemAfter : Bridge → Phase → Bool
+xmodemAfter b after = pick (isCollecting after && awaitsCommand (b .frame .phase)) (isXmodem (b .control .regs)) (b .frame .xmodem)
 
 -- "Every host word marks the watchdog": with the last reading
 abbrev pub marked : Clock → Clock
@@ -91,11 +109,15 @@ abbrev pub controlAfter : Bridge → Plan → Control
 controlAfter b p = settled (p .control) (receivingAfter b p .rx .count) false
 
 -- a plan carried out
-unfoldable pub performed : Layout → Bridge → Clock → Plan → Bridge
+unfoldable pub performed : Layouts → Bridge → Clock → Plan → Bridge
 performed l b clock p = record {
   control = controlAfter b p;
   sending = done (stored (b .sending) (p .store)) (p .deed);
   receiving = receivingAfter b p;
-  frame = record { phase = concluded l (p .status) (controlAfter b p) (p .phase); held = p .held };
+  frame = record {
+    phase = concluded l (b .frame .xmodem) (p .status) (controlAfter b p) (p .phase);
+    held = p .held;
+    xmodem = xmodemAfter b (p .phase);
+  };
   clock = clock;
 }

@@ -2,12 +2,12 @@
 // answers a plan; it is carried out in one place.
 ghost use mathlib.Core.Path.{_≡_};
 ghost use Rattle.registers.specs.Raising.{raisedIn};
-ghost use Rattle.plan.specs.Plan.{plain as plainOf, withReader, clearedAway, received as receivedOf, settled as settledOf, concluded as concludedOf, marked as markedOf, performed as performedOf};
+ghost use Rattle.plan.specs.Plan.{plain as plainOf, withReader, clearedAway, received as receivedOf, settled as settledOf, concluded as concludedOf, awaitsCommand, isCollecting, xmodemAfter, marked as markedOf, performed as performedOf};
 ghost use mathlib.Core.Bool.{true, false, _||_};
 ghost use lib.Dec.{ltb, eqb};
 ghost use Rattle.base.specs.Bits.{bit};
 ghost use Rattle.base.specs.Pick.{pick};
-ghost use Rattle.command.specs.Layouts.{ours};
+ghost use Rattle.command.specs.Layouts.{layouts};
 ghost use Rattle.state.specs.Facts.{RingFit, SendFit, Doable};
 ghost use Rattle.state.specs.Rings.{rxSize};
 ghost use Rattle.state.specs.Sending.{stored};
@@ -89,7 +89,7 @@ fn with_reader(receiving: Receiving, belongs: bool, storing: bool) -> Receiving
 }
 
 // A command whose place is cleared away is neither stored nor compared.
-pub fn cleared_away(receiving: Receiving, deed: Deed) -> Receiving
+fn cleared_away(receiving: Receiving, deed: Deed) -> Receiving
     ensures { λ r. ⌜ r ≡ clearedAway receiving deed ⌝ }
 {
     match deed {
@@ -164,9 +164,9 @@ fn is_silent(control: Control) -> bool
     control.regs.spictrl % 2 == 1
 }
 
-// STATUS is answered, taken after all effects.
-pub fn concluded(status: bool, control: Control, phase: Phase) -> Phase
-    ensures { λ r. ⌜ r ≡ concludedOf ours status control phase ⌝ }
+// STATUS is answered, taken after all effects, with its CRC by the frame's algorithm.
+pub fn concluded(xmodem: bool, status: bool, control: Control, phase: Phase) -> Phase
+    ensures { λ r. ⌜ r ≡ concludedOf layouts xmodem status control phase ⌝ }
 {
     if status {
         if is_silent(control) {
@@ -174,10 +174,58 @@ pub fn concluded(status: bool, control: Control, phase: Phase) -> Phase
         }
         return Phase::Answering {
             reply: Reply::Status(reading::status(control)),
-            crc: crc16::START,
+            crc: command::crc_start(xmodem),
         };
     }
     phase
+}
+
+fn awaits_command(phase: Phase) -> bool
+    ensures { λ r. ⌜ r ≡ awaitsCommand phase ⌝ }
+{
+    match phase {
+        Phase::Idle => true,
+        Phase::Collecting {
+            command: _,
+            got: _,
+            crc: _,
+            mine: _,
+            released: _,
+            blocked: _,
+        } => false,
+        Phase::Answering { reply: _, crc: _ } => false,
+        Phase::Discarding => false,
+    }
+}
+
+fn is_collecting(phase: Phase) -> bool
+    ensures { λ r. ⌜ r ≡ isCollecting phase ⌝ }
+{
+    match phase {
+        Phase::Idle => false,
+        Phase::Collecting {
+            command: _,
+            got: _,
+            crc: _,
+            mine: _,
+            released: _,
+            blocked: _,
+        } => true,
+        Phase::Answering { reply: _, crc: _ } => false,
+        Phase::Discarding => false,
+    }
+}
+
+// A frame's algorithm is the one in force at its command word (02 item 7).
+pub fn xmodem_after(bridge: Bridge, after: Phase) -> bool
+    ensures { λ r. ⌜ r ≡ xmodemAfter bridge after ⌝ }
+{
+    let frame = bridge.frame;
+    let before = frame.phase;
+    if is_collecting(after) & awaits_command(before) {
+        return registers::is_xmodem(bridge.control.regs);
+    }
+    frame.xmodem
 }
 
 // A host word marks the watchdog with the last reading.
@@ -193,7 +241,7 @@ pub fn marked(clock: Clock) -> Clock
 // The one place where a host's event changes the bridge.
 pub fn performed(bridge: Bridge, clock: Clock, plan: Plan) -> Bridge
     requires { ⌜ (SendFit (bridge .sending)) × (Doable (stored (bridge .sending) (plan .store)) (plan .deed)) × (RingFit rxSize (bridge .receiving .rx)) ⌝ }
-    ensures { λ r. ⌜ r ≡ performedOf ours bridge clock plan ⌝ }
+    ensures { λ r. ⌜ r ≡ performedOf layouts bridge clock plan ⌝ }
 {
     let store = plan.store;
     let deed = plan.deed;
@@ -204,8 +252,9 @@ pub fn performed(bridge: Bridge, clock: Clock, plan: Plan) -> Bridge
     let receiving = received(cleared_away(bridge.receiving, deed), receive);
     let control = settled(plan.control, receiving.rx.count, false);
     let frame = Frame {
-        phase: concluded(plan.status, control, phase),
+        phase: concluded(bridge.frame.xmodem, plan.status, control, phase),
         held: held,
+        xmodem: xmodem_after(bridge, phase),
     };
     Bridge {
         control: control,

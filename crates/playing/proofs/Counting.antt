@@ -6,7 +6,7 @@ use Prim.Native.Nat.{ℕ, zero, suc, _+_, _-_, _*_, _≤_, _<_}
 use native.Mathlib.Omega.{arith}
 use lib.ListN.{length, take, drop}
 use Rattle.base.specs.Pick.{pick, pick-told, pick-denied, pick-keeps}
-use Rattle.command.specs.Layouts.{ours}
+use Rattle.command.specs.Layouts.{layouts}
 use Rattle.state.specs.declared.Bridge.{Bridge}
 use Rattle.events.specs.declared.Event.{Event}
 use Rattle.script.specs.Script.{valueOf, recordOf}
@@ -131,7 +131,7 @@ none-stops (Good e) m f x h = absurd (omega arith)
 none-stops Bad m f x h = refl
 
 pub ahead-none : (b : Bridge) (tx rx : List ℕ) (n : ℕ) (records : List ℕ) → 0 < length records → ahead (suc n) records ≡ 0
-    → played ours b tx rx records ≡ stopped b tx rx
+    → played layouts b tx rx records ≡ stopped b tx rx
 unfolding ahead played
 ahead-none b tx rx n [] h e = absurd (omega arith)
 ahead-none b tx rx n (kind ∷ []) h e = refl

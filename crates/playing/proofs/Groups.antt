@@ -7,7 +7,7 @@ use native.Mathlib.Omega.{arith}
 use lib.ListN.{length, take, drop, length-drop, take-append-drop}
 use lib.Seq.{sets, length-take-le}
 use Rattle.base.specs.Pick.{pick-true}
-use Rattle.command.specs.Layouts.{ours}
+use Rattle.command.specs.Layouts.{layouts}
 use Rattle.state.specs.declared.Bridge.{Bridge}
 use Rattle.bridge.specs.Runs.{Config, endOf}
 use Rattle.whole_night.specs.Night.{bytesIn, end as nightEnd, End as NightEnd, night}
@@ -26,7 +26,7 @@ use Rattle.playing.proofs.Told.{allPlayed, events-played, events-refuse
 
 -- a group in one call, whose results have 256 bytes
 module _ (records : List ℕ) (g : Group records) (b : Bridge) (tx rx s : List ℕ) (size : length s ≡ 256) (d : Listed) (t r u : List ℕ)
-    (e : nightEnd d t r u ≡ night ours (config b tx rx) records s) (n : ℕ) (k : n ≡ outcomeNumber (d .outcome)) where
+    (e : nightEnd d t r u ≡ night layouts (config b tx rx) records s) (n : ℕ) (k : n ≡ outcomeNumber (d .outcome)) where
   abbrev from : Config
   from = config b tx rx
 
@@ -39,7 +39,7 @@ module _ (records : List ℕ) (g : Group records) (b : Bridge) (tx rx s : List �
   module _ (cells c : List ℕ) (at x : ℕ) (p : Part) where
     -- refused: all is as lent, and each event prints so
     pub to-refused : (n ≡ 0 → ⊥) → x ≡ at + length (refusedLines n records) → c ≡ sets cells at (refusedLines n records)
-        → p ≡ partOf b x true → end p t r c ≡ shownAt (played ours b tx rx records) cells at
+        → p ≡ partOf b x true → end p t r c ≡ shownAt (played layouts b tx rx records) cells at
     to-refused h f i j =
         let a = by-outcome .1 (λ z. h (k ∙ z)) in
         let v : Refuses from n = subst (Refuses from) (sym k) (a .2) in
@@ -49,7 +49,7 @@ module _ (records : List ℕ) (g : Group records) (b : Bridge) (tx rx s : List �
 
     -- done: what the results say is what the events print
     pub to-done : n ≡ 0 → x ≡ at + length (linesIn records u) → c ≡ sets cells at (linesIn records u)
-        → p ≡ partOf (d .state) x true → end p t r c ≡ shownAt (played ours b tx rx records) cells at
+        → p ≡ partOf (d .state) x true → end p t r c ≡ shownAt (played layouts b tx rx records) cells at
     to-done h f i j =
         ap₂ (λ (y : Part) (z : List ℕ). end y t r z) (j ∙ ap (λ (y : ℕ). partOf (d .state) y true) f) i
         ∙ ap (λ (y : NightEnd). shownAt (allPlayed (config (y .listed .state) (y .tx) (y .rx)) (linesIn records (y .results))) cells at)
@@ -73,7 +73,7 @@ none (x ∷ xs) h = absurd (omega arith)
 
 -- what is left of the records, played from here, is the whole
 pub record Left (b₀ : Bridge) (tx₀ rx₀ records cells₀ : List ℕ) (b : Bridge) (tx rx cells : List ℕ) (at : ℕ) (left : List ℕ) : Type 0 where
-  pub whole : shownAt (played ours b tx rx left) cells at ≡ shownAt (played ours b₀ tx₀ rx₀ records) cells₀ 0
+  pub whole : shownAt (played layouts b tx rx left) cells at ≡ shownAt (played layouts b₀ tx₀ rx₀ records) cells₀ 0
   pub space : at + room left ≤ length cells
   pub all : room records ≤ length cells₀
   pub same-tx : length tx ≡ length tx₀
@@ -86,21 +86,21 @@ left-begins b tx rx records cells h =
 
 module _ (b₀ : Bridge) (tx₀ rx₀ records cells₀ : List ℕ) (b : Bridge) (tx rx cells : List ℕ) (at : ℕ) (left : List ℕ)
     (v : Left b₀ tx₀ rx₀ records cells₀ b tx rx cells at left) where
-  all-shown : shownAt (played ours b tx rx left) cells at ≡ shown (played ours b₀ tx₀ rx₀ records) cells₀
-  all-shown = let f = fits ours records b₀ tx₀ rx₀ in v .whole ∙ front (played ours b₀ tx₀ rx₀ records) cells₀ (omega (arith, f, v .all))
+  all-shown : shownAt (played layouts b tx rx left) cells at ≡ shown (played layouts b₀ tx₀ rx₀ records) cells₀
+  all-shown = let f = fits layouts records b₀ tx₀ rx₀ in v .whole ∙ front (played layouts b₀ tx₀ rx₀ records) cells₀ (omega (arith, f, v .all))
 
   -- none are left
-  pub to-last : (p : Part) → length left ≤ 0 → p ≡ partOf b at true → end p tx rx cells ≡ shown (played ours b₀ tx₀ rx₀ records) cells₀
+  pub to-last : (p : Part) → length left ≤ 0 → p ≡ partOf b at true → end p tx rx cells ≡ shown (played layouts b₀ tx₀ rx₀ records) cells₀
   unfolding played
   to-last p h e =
       let z : at ≡ at + 0 = omega arith in
       ap (λ (x : Part). end x tx rx cells) (e ∙ ap (λ (n : ℕ). partOf b n true) z)
-      ∙ ap (λ (x : List ℕ). shownAt (played ours b tx rx x) cells at) (sym (none left h)) ∙ all-shown
+      ∙ ap (λ (x : List ℕ). shownAt (played layouts b tx rx x) cells at) (sym (none left h)) ∙ all-shown
 
   module _ (many : ℕ) (m : many ≡ ahead 64 left) where
     -- the next record is wrong or cut
     pub to-stop : 0 < length left → many * 3 ≡ 0 → (p : Part) (c : List ℕ) → p ≡ partOf b (at + 11) false → c ≡ sets cells at (bytesOf badRecord)
-        → end p tx rx c ≡ shown (played ours b₀ tx₀ rx₀ records) cells₀
+        → end p tx rx c ≡ shown (played layouts b₀ tx₀ rx₀ records) cells₀
     to-stop h z p c e f =
         let y : ahead 64 left ≡ 0 = omega (arith, m) in
         ap₂ (λ (x : Part) (w : List ℕ). end x tx rx w) e f
@@ -128,9 +128,9 @@ module _ (b₀ : Bridge) (tx₀ rx₀ records cells₀ : List ℕ) (b : Bridge) 
         omega (arith, l, f, v .space)
 
     abbrev now : Played
-    now = played ours b tx rx group
+    now = played layouts b tx rx group
 
-    now-is : now ≡ allPlayed (endOf ours (config b tx rx) (is-group .es)) (linesIn group (bytesIn ours (config b tx rx) (is-group .es) ++ []))
+    now-is : now ≡ allPlayed (endOf layouts (config b tx rx) (is-group .es)) (linesIn group (bytesIn layouts (config b tx rx) (is-group .es) ++ []))
     now-is = events-played group (config b tx rx) (is-group .es) [] (is-group .told)
 
     goes-on : now .on ≡ true
@@ -139,32 +139,32 @@ module _ (b₀ : Bridge) (tx₀ rx₀ records cells₀ : List ℕ) (b : Bridge) 
     now-short : length (now .printed) ≤ many * 17
     now-short =
         let l = group-length in
-        let f = lines-short group (bytesIn ours (config b tx rx) (is-group .es) ++ []) in
-        let e : length (now .printed) ≡ length (linesIn group (bytesIn ours (config b tx rx) (is-group .es) ++ [])) =
+        let f = lines-short group (bytesIn layouts (config b tx rx) (is-group .es) ++ []) in
+        let e : length (now .printed) ≡ length (linesIn group (bytesIn layouts (config b tx rx) (is-group .es) ++ [])) =
         ap (λ (p : Played). length (p .printed)) now-is in
         omega (arith, l, f, e)
 
-    then : played ours b tx rx left ≡ after (now .printed) (played ours (now .bridge) (now .tx) (now .rx) later)
+    then : played layouts b tx rx left ≡ after (now .printed) (played layouts (now .bridge) (now .tx) (now .rx) later)
     unfolding followed
     then =
         let l = group-length in
-        ap (played ours b tx rx) (sym (take-append-drop (many * 3) left)) ∙ joined ours later group b tx rx (omega (arith, l))
+        ap (played layouts b tx rx) (sym (take-append-drop (many * 3) left)) ∙ joined layouts later group b tx rx (omega (arith, l))
         ∙ sym (pick-true _ _ _ _ goes-on refl)
 
     abbrev Goes : End → Type 0
     Goes o =
-        (shownAt (played ours (o .part .bridge) (o .tx) (o .rx) later) (o .out) (o .part .length) ≡ shownAt (played ours b tx rx left) cells at)
+        (shownAt (played layouts (o .part .bridge) (o .tx) (o .rx) later) (o .out) (o .part .length) ≡ shownAt (played layouts b tx rx left) cells at)
         × (o .part .length ≤ at + many * 17)
 
     goes : Goes (shownAt now cells at)
     goes =
         let s = now-short in (
-          shown-after (now .printed) (played ours (now .bridge) (now .tx) (now .rx) later) cells at
+          shown-after (now .printed) (played layouts (now .bridge) (now .tx) (now .rx) later) cells at
               ∙ ap (λ (p : Played). shownAt p cells at) (sym then),
           omega (arith, s),
         )
 
-    pub again : (p : Part) (t r c : List ℕ) → end p t r c ≡ shownAt (played ours b tx rx (take (many * 3) left)) cells at → length t ≡ length tx
+    pub again : (p : Part) (t r c : List ℕ) → end p t r c ≡ shownAt (played layouts b tx rx (take (many * 3) left)) cells at → length t ≡ length tx
         → length r ≡ length rx → length c ≡ length cells
         → Left b₀ tx₀ rx₀ records cells₀ (p .bridge) t r c (p .length) (take (length left - many * 3) (drop (many * 3) left))
     again p t r c e lt lr lc =

@@ -9,7 +9,7 @@ use lib.Dec.{lit<}
 use lib.ListN.{length, getD, take, drop, set, length-set, length-append}
 use lib.Seq.{sets, sets-eq, take-suc, length-take-le}
 use Rattle.base.specs.Pick.{pick-keeps}
-use Rattle.command.specs.Layouts.{Layout}
+use Rattle.command.specs.Layouts.{Layouts}
 use Rattle.state.specs.Notes.{noteNumber}
 use Rattle.state.specs.declared.Bridge.{Bridge}
 use Rattle.events.specs.declared.Event.{Event}
@@ -83,7 +83,7 @@ line-short kind value note sdo sout = pick-keeps Short _ _ _ (λ h. (refl, omega
 abbrev Fits : ℕ → Played → Type 0
 Fits n p = length (p .printed) ≤ n
 
-module _ (l : Layout) where
+module _ (l : Layouts) where
   judged-fits : (rest : List ℕ) → ((b : Bridge) (tx rx : List ℕ) → Fits (room rest) (played l b tx rx rest)) → (b : Bridge) (tx rx : List ℕ) (kind value : ℕ)
       (r : Record) → Fits (length rest / 3 * 17 + 28) (judged r (λ (e : Event). after (bytesOf (lineFor kind value (step l b tx rx e .answer)))
       (played l (step l b tx rx e .answer .state) (step l b tx rx e .tx) (step l b tx rx e .rx) rest)) (stopped b tx rx))

@@ -6,7 +6,7 @@ use Prim.Native.Nat.{ℕ, _%_}
 use native.Mathlib.Omega.{arith}
 use lib.ListN.{length}
 use Rattle.base.specs.Pick.{pick}
-use Rattle.command.specs.Layouts.{Layout}
+use Rattle.command.specs.Layouts.{Layouts}
 use Rattle.state.specs.declared.Bridge.{Bridge}
 use Rattle.events.specs.declared.Event.{Event}
 use Rattle.bridge.specs.Step.{step}
@@ -22,7 +22,7 @@ after-pick text p q true =
     (sym (append-assoc text (p .printed) (q .printed)))
 after-pick text p q false = refl
 
-module _ (l : Layout) (rest : List ℕ) where
+module _ (l : Layouts) (rest : List ℕ) where
   after-followed : (text : List ℕ) (p : Played) → after text (followed l p rest) ≡ followed l (after text p) rest
   unfolding followed
   after-followed text p = after-pick text p (played l (p .bridge) (p .tx) (p .rx) rest) (p .on)

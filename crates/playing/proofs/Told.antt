@@ -9,7 +9,7 @@ use lib.Dec.{eqb}
 use lib.ListN.{length, drop, length-append, length-drop}
 use borrow.Author.Tests.{ltb-true}
 use Rattle.base.specs.Pick.{pick-true, pick-false, pick-keeps}
-use Rattle.command.specs.Layouts.{ours}
+use Rattle.command.specs.Layouts.{layouts}
 use Rattle.state.specs.Notes.{noteNumber}
 use Rattle.state.specs.declared.Note.{Note}
 use Rattle.state.specs.declared.Note.the-variants.{WrongStores, BrokenRecord}
@@ -46,37 +46,37 @@ abbrev pub allPlayed : Config → List ℕ → Played
 allPlayed c text = record { bridge = c .bridge; tx = c .tx; rx = c .rx; printed = text; on = true }
 
 abbrev playedFrom : Config → List ℕ → Played
-playedFrom c records = played ours (c .bridge) (c .tx) (c .rx) records
+playedFrom c records = played layouts (c .bridge) (c .tx) (c .rx) records
 
 -- by what the records say, where each is done
 abbrev Says : Config → Played → (List ℕ → List ℕ) → List ℕ → Told → Type 0
-Says c p lines more (events es) = p ≡ allPlayed (endOf ours c es) (lines (bytesIn ours c es ++ more))
+Says c p lines more (events es) = p ≡ allPlayed (endOf layouts c es) (lines (bytesIn layouts c es ++ more))
 Says c p lines more wrong = Unit {0}
 
 module _ (rest : List ℕ) (kind value : ℕ) where
   abbrev withLine : List ℕ → List ℕ
   withLine s = bytesOf (lineWith kind value s) ++ linesIn rest (drop 4 s)
 
-  says-event : (c : Config) (more : List ℕ) (e : Event) (t : Told) → Says (next ours c e) (playedFrom (next ours c e) rest) (linesIn rest) more t
-      → Says c (after (bytesOf (lineFor kind value (outOf ours c e .answer))) (playedFrom (next ours c e) rest)) withLine more (before (Good e) t)
+  says-event : (c : Config) (more : List ℕ) (e : Event) (t : Told) → Says (next layouts c e) (playedFrom (next layouts c e) rest) (linesIn rest) more t
+      → Says c (after (bytesOf (lineFor kind value (outOf layouts c e .answer))) (playedFrom (next layouts c e) rest)) withLine more (before (Good e) t)
   unfolding before endOf bytesIn
   says-event c more e (events es) h =
-      let text : List ℕ = bytesOf (lineFor kind value (outOf ours c e .answer)) in
+      let text : List ℕ = bytesOf (lineFor kind value (outOf layouts c e .answer)) in
       ap (after text) h
-      ∙ ap (λ x. allPlayed (endOf ours (next ours c e) es) (bytesOf x ++ linesIn rest (bytesIn ours (next ours c e) es ++ more)))
-      (sym (line-back kind value (outOf ours c e .answer)))
+      ∙ ap (λ x. allPlayed (endOf layouts (next layouts c e) es) (bytesOf x ++ linesIn rest (bytesIn layouts (next layouts c e) es ++ more)))
+      (sym (line-back kind value (outOf layouts c e .answer)))
   says-event c more e wrong h = tt
 
   says-record : ((c : Config) (more : List ℕ) → Says c (playedFrom c rest) (linesIn rest) more (eventsIn rest)) → (c : Config) (more : List ℕ) (r : Record)
       → Says c
-      (judged r (λ (e : Event). after (bytesOf (lineFor kind value (step ours (c .bridge) (c .tx) (c .rx) e .answer)))
-      (played ours (step ours (c .bridge) (c .tx) (c .rx) e .answer .state) (step ours (c .bridge) (c .tx) (c .rx) e .tx) (step ours (c .bridge) (c .tx) (c .rx) e .rx) rest))
+      (judged r (λ (e : Event). after (bytesOf (lineFor kind value (step layouts (c .bridge) (c .tx) (c .rx) e .answer)))
+      (played layouts (step layouts (c .bridge) (c .tx) (c .rx) e .answer .state) (step layouts (c .bridge) (c .tx) (c .rx) e .tx) (step layouts (c .bridge) (c .tx) (c .rx) e .rx) rest))
       (stopped (c .bridge) (c .tx) (c .rx)))
       withLine
       more
       (before r (eventsIn rest))
   unfolding judged before next outOf
-  says-record ih c more (Good e) = says-event c more e (eventsIn rest) (ih (next ours c e) more)
+  says-record ih c more (Good e) = says-event c more e (eventsIn rest) (ih (next layouts c e) more)
   says-record ih c more Bad = tt
 
 says : (records : List ℕ) (c : Config) (more : List ℕ) → Says c (playedFrom c records) (linesIn records) more (eventsIn records)
@@ -87,7 +87,7 @@ says (kind ∷ high ∷ []) c more = tt
 says (kind ∷ high ∷ low ∷ rest) c more = says-record rest kind (valueOf high low) (says rest) c more (recordOf kind (valueOf high low))
 
 pub events-played : (records : List ℕ) (c : Config) (es : List Event) (more : List ℕ) → eventsIn records ≡ events es
-    → playedFrom c records ≡ allPlayed (endOf ours c es) (linesIn records (bytesIn ours c es ++ more))
+    → playedFrom c records ≡ allPlayed (endOf layouts c es) (linesIn records (bytesIn layouts c es ++ more))
 events-played records c es more told = subst (Says c (playedFrom c records) (linesIn records) more) told (says records c more)
 
 -- three bytes each
@@ -115,7 +115,7 @@ three-each records es told = subst (Many (length records)) told (many records)
 pub record Refuses (c : Config) (n : ℕ) : Type 0 where
   pub note : Note
   pub number : noteNumber note ≡ n
-  pub all : (e : Event) → step ours (c .bridge) (c .tx) (c .rx) e ≡ refused (c .bridge) (c .tx) (c .rx) note
+  pub all : (e : Event) → step layouts (c .bridge) (c .tx) (c .rx) e ≡ refused (c .bridge) (c .tx) (c .rx) note
 
 module _ (c : Config) (n : ℕ) (v : Refuses c n) where
   abbrev Stays : Played → List ℕ → Told → Type 0
@@ -127,17 +127,17 @@ module _ (c : Config) (n : ℕ) (v : Refuses c n) where
     refusedLine = bytesOf (lineOf kind value n noAnswer true)
 
     abbrev goesOn : Out → Played
-    goesOn o = after (bytesOf (lineFor kind value (o .answer))) (played ours (o .answer .state) (o .tx) (o .rx) rest)
+    goesOn o = after (bytesOf (lineFor kind value (o .answer))) (played layouts (o .answer .state) (o .tx) (o .rx) rest)
 
     stays-event : (e : Event) (t : Told) → Stays (playedFrom c rest) (refusedLines n rest) t
-        → Stays (goesOn (step ours (c .bridge) (c .tx) (c .rx) e)) (refusedLine ++ refusedLines n rest) (before (Good e) t)
+        → Stays (goesOn (step layouts (c .bridge) (c .tx) (c .rx) e)) (refusedLine ++ refusedLines n rest) (before (Good e) t)
     unfolding before
     stays-event e (events es) h =
         ap goesOn (v .all e) ∙ ap (λ (m : ℕ). after (bytesOf (lineOf kind value m noAnswer true)) (playedFrom c rest)) (v .number) ∙ ap (after refusedLine) h
     stays-event e wrong h = tt
 
     stays-record : Stays (playedFrom c rest) (refusedLines n rest) (eventsIn rest) → (r : Record)
-        → Stays (judged r (λ (e : Event). goesOn (step ours (c .bridge) (c .tx) (c .rx) e)) (stopped (c .bridge) (c .tx) (c .rx)))
+        → Stays (judged r (λ (e : Event). goesOn (step layouts (c .bridge) (c .tx) (c .rx) e)) (stopped (c .bridge) (c .tx) (c .rx)))
         (refusedLine ++ refusedLines n rest) (before r (eventsIn rest))
     unfolding judged before
     stays-record h (Good e) = stays-event e (eventsIn rest) h
@@ -156,17 +156,17 @@ module _ (c : Config) (n : ℕ) (v : Refuses c n) where
 -- by the outcome: all are done, or all is as lent and each would be refused
 abbrev pub Found : Config → List Event → List ℕ → End → Type 0
 Found c es s x =
-    (outcomeNumber (x .listed .outcome) ≡ 0 → x ≡ allDone ours c es s)
+    (outcomeNumber (x .listed .outcome) ≡ 0 → x ≡ allDone layouts c es s)
     × ((outcomeNumber (x .listed .outcome) ≡ 0 → ⊥) → (x .tx ≡ c .tx) × (x .rx ≡ c .rx) × Refuses c (outcomeNumber (x .listed .outcome)))
 
 module _ (c : Config) (records s : List ℕ) (es : List Event) (told : eventsIn records ≡ events es) (room : length es * 4 ≤ length s) where
   abbrev Here : End → Type 0
   Here x = Found c es s x
 
-  pub found : Here (night ours c records s)
+  pub found : Here (night layouts c records s)
   unfolding judgedBy tested step
   found =
-      subst (λ (t : Told). Here (judgedBy ours c s t)) (sym told)
+      subst (λ (t : Told). Here (judgedBy layouts c s t)) (sym told)
       (pick-keeps Here _ _ _ (λ h. let l : length s < length es * 4 = ltb-true _ _ h in absurd (omega arith))
       (λ h. pick-keeps Here _ _ _
       (λ i. pick-keeps Here _ _ _
@@ -184,9 +184,9 @@ module _ (c : Config) (records s : List ℕ) (es : List Event) (told : eventsIn 
       (λ i. (λ n. absurd (omega arith), λ n. (refl, refl, record { note = WrongStores; number = refl; all = λ e. sym (pick-false _ _ _ _ i refl) })))))
 
 -- the results are as long as lent
-pub results-length : (c : Config) (es : List Event) (s : List ℕ) → length es * 4 ≤ length s → length (allDone ours c es s .results) ≡ length s
+pub results-length : (c : Config) (es : List Event) (s : List ℕ) → length es * 4 ≤ length s → length (allDone layouts c es s .results) ≡ length s
 results-length c es s h =
-    let n = four-each ours c es in
-    let a = length-append (bytesIn ours c es) (drop (length es * 4) s) in
+    let n = four-each layouts c es in
+    let a = length-append (bytesIn layouts c es) (drop (length es * 4) s) in
     let d = length-drop (length es * 4) s in
     omega (arith, n, a, d)

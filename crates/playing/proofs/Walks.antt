@@ -7,7 +7,7 @@ use native.Mathlib.Omega.{arith}
 use lib.ListN.{length}
 use lib.Seq.{sets}
 use Rattle.base.specs.Pick.{pick-told, pick-denied, pick-le, pick-not-le}
-use Rattle.command.specs.Layouts.{ours}
+use Rattle.command.specs.Layouts.{layouts}
 use Rattle.state.specs.Power.{powerUp}
 use Rattle.state.specs.declared.Bridge.{Bridge}
 use Rattle.script.specs.Script.{isHead}
@@ -51,17 +51,17 @@ module _ (head cells : List ℕ) (t : Bool) (b : Bridge) (o : t ≡ isHead head)
 
 -- a part, with room or without
 module _ (b : Bridge) (tx rx records cells : List ℕ) where
-  no-room : (p : Part) → length cells < room records → p ≡ partOf b 0 false → end p tx rx cells ≡ play ours b tx rx records cells
+  no-room : (p : Part) → length cells < room records → p ≡ partOf b 0 false → end p tx rx cells ≡ play layouts b tx rx records cells
   unfolding play
   no-room p h e = pick-not-le (room records) (length cells) _ _ _ h (ap (λ (x : Part). end x tx rx cells) e)
 
-  pub to-small : (p : Part) → length cells < 11 → p ≡ partOf b 0 false → end p tx rx cells ≡ play ours b tx rx records cells
+  pub to-small : (p : Part) → length cells < 11 → p ≡ partOf b 0 false → end p tx rx cells ≡ play layouts b tx rx records cells
   to-small p h e = no-room p (omega arith) e
 
-  pub to-smaller : (p : Part) → (length cells - 11) / 17 < length records / 3 → p ≡ partOf b 0 false → end p tx rx cells ≡ play ours b tx rx records cells
+  pub to-smaller : (p : Part) → (length cells - 11) / 17 < length records / 3 → p ≡ partOf b 0 false → end p tx rx cells ≡ play layouts b tx rx records cells
   to-smaller p h e = no-room p (omega arith) e
 
-  pub to-play : (x : End) → 11 ≤ length cells → length records / 3 ≤ (length cells - 11) / 17 → x ≡ shown (played ours b tx rx records) cells
-      → x ≡ play ours b tx rx records cells
+  pub to-play : (x : End) → 11 ≤ length cells → length records / 3 ≤ (length cells - 11) / 17 → x ≡ shown (played layouts b tx rx records) cells
+      → x ≡ play layouts b tx rx records cells
   unfolding play
   to-play x h k e = let m : room records ≤ length cells = omega arith in pick-le (room records) (length cells) _ _ _ m e

@@ -5,7 +5,7 @@ use Prim.Native.Nat.{ℕ, _+_, _*_, _/_}
 use lib.Dec.{leb}
 use lib.ListN.{length, take, drop, replicate}
 use Rattle.base.specs.Pick.{pick}
-use Rattle.command.specs.Layouts.{Layout, ours}
+use Rattle.command.specs.Layouts.{Layouts, layouts}
 use Rattle.state.specs.Notes.{noteNumber}
 use Rattle.state.specs.Power.{powerUp}
 use Rattle.state.specs.Rings.{txSize, rxSize}
@@ -72,7 +72,7 @@ judged Bad event wrong = wrong
 
 -- The records of a script, each judged when it is reached: an event prints its line, and the next begins from the state and the stores that
 -- it left. One or two bytes at the end are a cut record.
-unfoldable pub played : Layout → Bridge → List ℕ → List ℕ → List ℕ → Played
+unfoldable pub played : Layouts → Bridge → List ℕ → List ℕ → List ℕ → Played
 played l b tx rx [] = atEnd b tx rx
 played l b tx rx (kind ∷ []) = stopped b tx rx
 played l b tx rx (kind ∷ high ∷ []) = stopped b tx rx
@@ -83,13 +83,13 @@ played l b tx rx (kind ∷ high ∷ low ∷ rest) =
     (stopped b tx rx)
 
 -- a part, and then the rest of the script from what it left; where the script ended, nothing
-unfoldable pub followed : Layout → Played → List ℕ → Played
+unfoldable pub followed : Layouts → Played → List ℕ → Played
 followed l p rest = pick (p .on) (after (p .printed) (played l (p .bridge) (p .tx) (p .rx) rest)) p
 
 -- "It begins from the power-up value"; the stores are new. What a whole script prints
 unfoldable pub scriptPrints : List ℕ → List ℕ
 scriptPrints script =
-    pick (isHead script) (played ours powerUp (replicate txSize 0) (replicate rxSize 0) (drop 5 script) .printed) (bytesOf badScript)
+    pick (isHead script) (played layouts powerUp (replicate txSize 0) (replicate rxSize 0) (drop 5 script) .printed) (bytesOf badScript)
 
 -- what a function answers, and the stores and the output as it leaves them
 pub record End : Type 0 where
@@ -113,7 +113,7 @@ abbrev pub room : List ℕ → ℕ
 room records = length records / 3 * mostPrinted + saidLength
 
 -- Where the output has less room nothing is done: all is as lent, nothing printed, and the script does not go on.
-unfoldable pub play : Layout → Bridge → List ℕ → List ℕ → List ℕ → List ℕ → End
+unfoldable pub play : Layouts → Bridge → List ℕ → List ℕ → List ℕ → List ℕ → End
 play l b tx rx records cells =
     pick (leb (room records) (length cells)) (shown (played l b tx rx records) cells)
     (end (record { bridge = b; length = 0; on = false }) tx rx cells)

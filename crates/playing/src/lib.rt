@@ -7,7 +7,7 @@ ghost use mathlib.Core.Bool.{false};
 ghost use Prim.Native.Nat.{_+_, _*_, _/_, _≤_};
 ghost use lib.ListN.{length};
 ghost use lib.Seq.{sets};
-ghost use Rattle.command.specs.Layouts.{ours};
+ghost use Rattle.command.specs.Layouts.{layouts};
 ghost use Rattle.playing.specs.Playing.{badScript, badRecord, bytesOf, end, played, shown, room, play as playOf, begun, begin as beginOf};
 ghost use Rattle.playing.specs.Walk.{partOf, shownAt, ahead as aheadOf, Group};
 ghost use Rattle.playing.specs.Lines.{firstLine, linesIn, refusedLines};
@@ -188,7 +188,7 @@ fn group(
 ) -> Part
     requires { ⌜ Group (now records) ⌝ }
     requires { ⌜ at + length (now records) / 3 * 17 ≤ length (now out) ⌝ }
-    ensures { λ r. ⌜ end r (now (tx .exit)) (now (rx .exit)) (now (out .exit)) ≡ shownAt (played ours start (now (tx .entry)) (now (rx .entry)) (now (records .entry))) (now (out .entry)) at ⌝ }
+    ensures { λ r. ⌜ end r (now (tx .exit)) (now (rx .exit)) (now (out .exit)) ≡ shownAt (played layouts start (now (tx .entry)) (now (rx .entry)) (now (records .entry))) (now (out .entry)) at ⌝ }
 {
     let mut results = [0u8; 256];
     let listed = whole_night::night(start, tx, rx, records, &mut results);
@@ -206,7 +206,7 @@ fn group(
 // The records group by group, until one is wrong or cut.
 fn run(start: Bridge, tx: &mut [u16], rx: &mut [u16], records: &[u8], out: &mut [u8]) -> Part
     requires { ⌜ room (now records) ≤ length (now out) ⌝ }
-    ensures { λ r. ⌜ end r (now (tx .exit)) (now (rx .exit)) (now (out .exit)) ≡ shown (played ours start (now (tx .entry)) (now (rx .entry)) (now (records .entry))) (now (out .entry)) ⌝ }
+    ensures { λ r. ⌜ end r (now (tx .exit)) (now (rx .exit)) (now (out .exit)) ≡ shown (played layouts start (now (tx .entry)) (now (rx .entry)) (now (records .entry))) (now (out .entry)) ⌝ }
 {
     let mut bridge = start;
     let mut at: usize = 0;
@@ -226,7 +226,7 @@ fn run(start: Bridge, tx: &mut [u16], rx: &mut [u16], records: &[u8], out: &mut 
 
 // A part of a script's records, from the state and the stores that the part before it left. Its lines are at the front of the output.
 pub fn play(start: Bridge, tx: &mut [u16], rx: &mut [u16], records: &[u8], out: &mut [u8]) -> Part
-    ensures { λ r. ⌜ end r (now (tx .exit)) (now (rx .exit)) (now (out .exit)) ≡ playOf ours start (now (tx .entry)) (now (rx .entry)) (now (records .entry)) (now (out .entry)) ⌝ }
+    ensures { λ r. ⌜ end r (now (tx .exit)) (now (rx .exit)) (now (out .exit)) ≡ playOf layouts start (now (tx .entry)) (now (rx .entry)) (now (records .entry)) (now (out .entry)) ⌝ }
 {
     if out.len() < 11 {
         return made(start, 0, false);

@@ -10,15 +10,11 @@ use Rattle.state.specs.declared.Bridge.{Bridge}
 use Rattle.bridge.specs.Fit.{Fit}
 use Rattle.listing.specs.Run.{listOf, Gone}
 use Rattle.pouring.specs.Pour.{poured, pouredBy}
-use Rattle.pouring.specs.Poured.{Ahead, Poured}
+use Rattle.pouring.specs.Poured.{Poured}
 use Rattle.pouring.specs.declared.Stream.{Stream}
 
 module _ (records : List ℕ) (many from : ℕ) (b₀ : Bridge) (tx₀ rx₀ s₀ : List ℕ) (k : ℕ) (b : Bridge) (tx rx s : List ℕ)
     (v : Gone records many from b₀ tx₀ rx₀ s₀ k b tx rx s) where
-  -- what such a run is lent
-  pub ahead : k < many → Ahead records s k many
-  ahead h = record { list = v .list; one = h }
-
   module _ (to : ℕ) (st : Stream) (t u : List ℕ) (w : Poured records many b k tx s to st t u) where
     gone-on : (x : Bridge) → x ≡ pouredBy (ltb k to) b st → Gone records many from b₀ tx₀ rx₀ s₀ to x t rx u
     gone-on x e = record {

@@ -9,7 +9,7 @@ use lib.ListN.{length, length-set, getD, set}
 use borrow.Author.Tests.{lt-ltb, le-ltb}
 use Rattle.base.specs.Pick.{pick, pick-true, pick-false}
 use Rattle.base.specs.Truth.{never}
-use Rattle.command.specs.Layouts.{ours}
+use Rattle.command.specs.Layouts.{layouts}
 use Rattle.crc16.specs.Crc.{crcWord}
 use Rattle.state.specs.Facts.{HostFit}
 use Rattle.state.specs.Frame.{mineOf}
@@ -27,11 +27,11 @@ use Rattle.bridge.proofs.Keeping.{turn-keeps}
 use Rattle.script.specs.Script.{valueOf}
 use Rattle.listing.specs.Records.{eventAt}
 use Rattle.listing.specs.Results.{put}
-use Rattle.listing.specs.Run.{Moment, putAnswer, listOf}
+use Rattle.listing.specs.Run.{Moment, putAnswer, listOf, Ahead}
 use Rattle.listing.proofs.Records.{each-event, word-at}
 use Rattle.listing.proofs.Laws.{put-length}
 use Rattle.pouring.specs.Pour.{bedOf, stream, streamOf, pours, mineOn, pouredOn, stays, stayNote, poured, pouredBy}
-use Rattle.pouring.specs.Poured.{Ahead, Poured}
+use Rattle.pouring.specs.Poured.{Poured}
 use Rattle.pouring.specs.declared.Bed.{Bed}
 use Rattle.pouring.specs.declared.Stream.{Stream}
 use Rattle.pouring.proofs.Words.{answer, fits, Pours, pour-turn, same-count, still-turn}
@@ -67,21 +67,21 @@ pour-begins records many b from st tx s f l e = record {
 module _ (records : List ℕ) (many : ℕ) (b : Bridge) (from : ℕ) (tx₀ s₀ : List ℕ) (k : ℕ) (st : Stream) (tx s : List ℕ)
     (v : Poured records many b from tx₀ s₀ k st tx s) (l : Ahead records s₀ from many) (i : k < many) (one-kind : getD records (k * 3) 0 ≡ 1)
     (w : ℕ) (we : w ≡ valueOf (getD records (k * 3 + 1) 0) (getD records (k * 3 + 2) 0)) (x : Stream) (n : Note) (t : List ℕ)
-    (word-turn : (rx : List ℕ) → turn ours (pouredBy (ltb from k) b st) tx rx (Word w) ≡ out (answer (poured b x) n) t rx) where
+    (word-turn : (rx : List ℕ) → turn layouts (pouredBy (ltb from k) b st) tx rx (Word w) ≡ out (answer (poured b x) n) t rx) where
   abbrev before : Bridge
   before = pouredBy (ltb from k) b st
 
   abbrev after : List ℕ
   after = put s k (noteNumber n) noAnswer true
 
-  turned : (rx : List ℕ) → turn ours before tx rx (eventAt records k) ≡ out (answer (poured b x) n) t rx
+  turned : (rx : List ℕ) → turn layouts before tx rx (eventAt records k) ≡ out (answer (poured b x) n) t rx
   turned rx =
-      ap (turn ours before tx rx) (sym (ap Word we ∙ word-at records k (each-event records many (l .list .events) k i) one-kind)) ∙ word-turn rx
+      ap (turn layouts before tx rx) (sym (ap Word we ∙ word-at records k (each-event records many (l .list .events) k i) one-kind)) ∙ word-turn rx
 
   abbrev on : Out → Moment
   on o = listOf records (many - (k + 1)) (k + 1) (o .answer .state) (o .tx) (o .rx) (putAnswer s k (o .answer))
 
-  one : (rx : List ℕ) → on (turn ours before tx rx (eventAt records k)) ≡ listOf records (many - k) k before tx rx s
+  one : (rx : List ℕ) → on (turn layouts before tx rx (eventAt records k)) ≡ listOf records (many - k) k before tx rx s
   unfolding listOf
   one rx = let z : many - k ≡ suc (many - (k + 1)) = omega arith in sym (ap (λ (m : ℕ). listOf records m k before tx rx s) z)
 
@@ -117,7 +117,7 @@ module _ (records : List ℕ) (many : ℕ) (b : Bridge) (from : ℕ) (tx₀ s₀
     (v : Poured records many b from tx₀ s₀ k st tx s) (l : Ahead records s₀ from many) (i : k < many) (d : Bed) (de : d ≡ bedOf (b .frame .phase))
     (df : d .flows ≡ true) (one-kind : getD records (k * 3) 0 ≡ 1) (w : ℕ) (we : w ≡ valueOf (getD records (k * 3 + 1) 0) (getD records (k * 3 + 2) 0))
     (go : Bool) (ge : go ≡ pours st d (b .control .regs .txfflvl)) (gt : go ≡ true) where
-  poured-turn : (rx : List ℕ) → turn ours (pouredBy (ltb from k) b st) tx rx (Word w)
+  poured-turn : (rx : List ℕ) → turn layouts (pouredBy (ltb from k) b st) tx rx (Word w)
       ≡ out (answer (poured b (pouredOn st (d .released) w)) Done) (set tx ((b .sending .tx .head + st .count) % 512) w) rx
   poured-turn rx =
       subst (λ (y : Bed). Pours (ltb from k) b st w tx rx (v .first) y) (sym de) (pour-turn (ltb from k) b st w tx rx (v .first)) df (sym ge ∙ gt)

@@ -9,8 +9,8 @@ use lib.ListN.{set}
 use borrow.Author.Tests.{le-leb, lt-leb, ltb-true, leb-true, leb-false}
 use Rattle.base.specs.Pick.{pick, and-l, and-r}
 use Rattle.base.specs.Truth.{chosen-by, chosen}
-use Rattle.command.specs.Layout.{decodeOurs}
-use Rattle.command.specs.Layouts.{ours}
+use Rattle.command.specs.Layout.{decodeBy}
+use Rattle.command.specs.Layouts.{layouts}
 use Rattle.command.specs.declared.Command.{Command}
 use Rattle.command.specs.declared.Command.the-variants.{Filler, Malformed, Forward, DataRead, RegisterWrite, RegisterRead, SoftReset}
 use Rattle.registers.specs.declared.Control.{Control}
@@ -25,7 +25,7 @@ use Rattle.state.specs.declared.Note.the-variants.{Done}
 use Rattle.state.specs.declared.Phase.{Phase}
 use Rattle.state.specs.declared.Phase.the-variants.{Idle, Collecting, Answering, Discarding}
 use Rattle.state.specs.declared.Store.the-variants.{Put}
-use Rattle.plan.specs.Plan.{noAnswer, plain, clearedAway, received, settled, concluded, marked, performed}
+use Rattle.plan.specs.Plan.{noAnswer, plain, clearedAway, received, settled, concluded, awaitsCommand, isCollecting, marked, performed}
 use Rattle.plan.specs.declared.Plan.{Plan}
 use Rattle.plan.specs.declared.Receive.the-variants.{LeaveRx}
 use Rattle.forwards.specs.Forward.{asksStore, guard, faulted, mineAfter, enqueues, clears, forwarded, forwardWord}
@@ -125,11 +125,11 @@ module _ (b : Bridge) (f : Fwd) (st : Stream) (released : Bool) (w : ℕ) (e : b
   not-full : leb txSize (st .count) ≡ false
   not-full = lt-leb txSize (st .count) (fits st (bed f released) level _ refl h)
 
-  stores : (x : ℕ) → planned ours b w x ≡ plan b f st released w
+  stores : (x : ℕ) → planned layouts b w x ≡ plan b f st released w
   unfolding planned plannedIn dataWord forwardWord forwarded guard asksStore faulted mineAfter enqueues clears pick
   stores x = rw (e, n, comes st (bed f released) level _ refl h, not-full, kept-back, ← mine-same released (st .mine)) refl
 
-  first-pour : (tx rx : List ℕ) → turn ours b tx rx (Word w)
+  first-pour : (tx rx : List ℕ) → turn layouts b tx rx (Word w)
       ≡ out (answer (poured b (pouredOn st released w)) Done) (set tx ((b .sending .tx .head + st .count) % 512) w) rx
   unfolding turn turned reacted performed stored ringAfter done clearedAway received concluded pick written pouredPhase
   first-pour tx rx = rw (stores (oldest rx (b .receiving .rx)), e, n) refl
@@ -143,7 +143,7 @@ poured-twice b f s₀ st s released e = rw (e, settled-twice (b .control) (b .re
 pour-on : (some : Bool) (b : Bridge) (f : Fwd) (s₀ : Stream) (released : Bool) (st : Stream) (w : ℕ) (tx rx : List ℕ)
     → b .frame .phase ≡ phaseAt f s₀ released → (some ≡ false → st ≡ streamOf (b .frame .phase) (b .sending .tx .count))
     → pours st (bed f released) (b .control .regs .txfflvl) ≡ true
-    → turn ours (pouredBy some b st) tx rx (Word w)
+    → turn layouts (pouredBy some b st) tx rx (Word w)
     ≡ out (answer (poured b (pouredOn st released w)) Done) (set tx ((b .sending .tx .head + st .count) % 512) w) rx
 unfolding pick pouredPhase settled streamOf
 pour-on true b f s₀ released st w tx rx e s h =
@@ -158,7 +158,7 @@ pour-on false b f s₀ released st w tx rx e s h =
 module _ (some : Bool) (b : Bridge) (st : Stream) (w : ℕ) (tx rx : List ℕ)
     (s : some ≡ false → st ≡ streamOf (b .frame .phase) (b .sending .tx .count)) where
   abbrev pub Pours : Bed → Type 0
-  Pours d = d .flows ≡ true → pours st d (b .control .regs .txfflvl) ≡ true → turn ours (pouredBy some b st) tx rx (Word w)
+  Pours d = d .flows ≡ true → pours st d (b .control .regs .txfflvl) ≡ true → turn layouts (pouredBy some b st) tx rx (Word w)
       ≡ out (answer (poured b (pouredOn st (d .released) w)) Done) (set tx ((b .sending .tx .head + st .count) % 512) w) rx
 
   by-command : (c : Command) (got sum mine : ℕ) (released blocked : Bool) → b .frame .phase ≡ Collecting c got sum mine released blocked
@@ -186,8 +186,8 @@ module _ (some : Bool) (b : Bridge) (st : Stream) (w : ℕ) (tx rx : List ℕ)
 
 -- 2. A word that leaves the frame as it is.
 
-stays-planned : (b : Bridge) (p : Phase) (w x : ℕ) → stays p w ≡ true → plannedIn ours b p w x ≡ plain b p (stayNote p)
-unfolding stays stayNote plannedIn opened decodeOurs pick
+stays-planned : (b : Bridge) (p : Phase) (w x : ℕ) → stays p w ≡ true → plannedIn layouts b p w x ≡ plain b p (stayNote p)
+unfolding stays stayNote plannedIn opened decodeBy pick
 stays-planned b Idle w x h = rw h refl
 stays-planned b (Collecting command got sum mine released blocked) w x h = cc
 stays-planned b (Answering reply sum) w x h = cc
@@ -203,10 +203,17 @@ rested b = record {
   clock = marked (b .clock);
 }
 
+-- it opens no frame, so the algorithm stays
+unopened : (p : Phase) → (isCollecting p && awaitsCommand p) ≡ false
+unopened Idle = refl
+unopened (Collecting command got sum mine released blocked) = refl
+unopened (Answering reply sum) = refl
+unopened Discarding = refl
+
 first-stay : (b : Bridge) (w : ℕ) (tx rx : List ℕ) → stays (b .frame .phase) w ≡ true
-    → turn ours b tx rx (Word w) ≡ out (answer (rested b) (stayNote (b .frame .phase))) tx rx
+    → turn layouts b tx rx (Word w) ≡ out (answer (rested b) (stayNote (b .frame .phase))) tx rx
 unfolding turn turned reacted planned performed stored ringAfter done clearedAway received concluded pick written
-first-stay b w tx rx h = rw (stays-planned b (b .frame .phase) w (oldest rx (b .receiving .rx)) h) refl
+first-stay b w tx rx h = rw (stays-planned b (b .frame .phase) w (oldest rx (b .receiving .rx)) h, unopened (b .frame .phase)) refl
 
 pub same-count : (p : Phase) (n : ℕ) → streamOf p n .count ≡ n
 unfolding streamOf
@@ -229,7 +236,7 @@ rested-twice : (b : Bridge) → rested (rested b) ≡ rested b
 rested-twice b = rw (settled-twice (b .control) (b .receiving .rx .count)) refl
 
 still-on : (some : Bool) (b : Bridge) (w : ℕ) (tx rx : List ℕ) → stays (b .frame .phase) w ≡ true
-    → turn ours (pick some (rested b) b) tx rx (Word w) ≡ out (answer (rested b) (stayNote (b .frame .phase))) tx rx
+    → turn layouts (pick some (rested b) b) tx rx (Word w) ≡ out (answer (rested b) (stayNote (b .frame .phase))) tx rx
 unfolding pick
 still-on true b w tx rx h =
     first-stay (rested b) w tx rx h ∙ ap (λ (x : Bridge). out (answer x (stayNote (b .frame .phase))) tx rx) (rested-twice b)
@@ -237,7 +244,7 @@ still-on false b w tx rx h = first-stay b w tx rx h
 
 pub still-turn : (some : Bool) (b : Bridge) (st : Stream) (w : ℕ) (tx rx : List ℕ) → st ≡ streamOf (b .frame .phase) (b .sending .tx .count)
     → stays (b .frame .phase) w ≡ true
-    → turn ours (pouredBy some b st) tx rx (Word w) ≡ out (answer (poured b st) (stayNote (b .frame .phase))) tx rx
+    → turn layouts (pouredBy some b st) tx rx (Word w) ≡ out (answer (poured b st) (stayNote (b .frame .phase))) tx rx
 still-turn some b st w tx rx e h =
     let z : poured b st ≡ rested b = ap (poured b) e ∙ is-rested b in
     rw z (still-on some b w tx rx h)

@@ -80,7 +80,7 @@ poured b s = record {
   control = settled (b .control) (b .receiving .rx .count) false;
   sending = record { tx = record { head = b .sending .tx .head; count = s .count }; queue = b .sending .queue; sender = b .sending .sender };
   receiving = b .receiving;
-  frame = record { phase = pouredPhase (b .frame .phase) s; held = b .frame .held };
+  frame = record { phase = pouredPhase (b .frame .phase) s; held = b .frame .held; xmodem = b .frame .xmodem };
   clock = marked (b .clock);
 }
 

@@ -2,19 +2,14 @@
 use mathlib.Core.Path.{_≡_}
 use mathlib.Core.Bool.{false}
 use mathlib.Core.List.{List}
-use Prim.Native.Nat.{ℕ, _-_, _≤_, _<_}
+use Prim.Native.Nat.{ℕ, _-_, _≤_}
 use lib.Dec.{ltb}
 use lib.ListN.{length}
 use Rattle.state.specs.declared.Bridge.{Bridge}
 use Rattle.bridge.specs.Fit.{Fit}
-use Rattle.listing.specs.Run.{listOf, Listable}
+use Rattle.listing.specs.Run.{listOf}
 use Rattle.pouring.specs.Pour.{streamOf, pouredBy}
 use Rattle.pouring.specs.declared.Stream.{Stream}
-
--- the list has an event k
-pub record Ahead (records s : List ℕ) (k many : ℕ) : Type 0 where
-  pub list : Listable records s many
-  pub one : k < many
 
 -- events `from` to k were such words: what is left of the list, from the record that they leave, is the list from `from` on
 pub record Poured (records : List ℕ) (many : ℕ) (b : Bridge) (from : ℕ) (tx₀ s₀ : List ℕ) (k : ℕ) (st : Stream) (tx s : List ℕ) : Type 0 where

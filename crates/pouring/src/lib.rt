@@ -11,8 +11,9 @@ ghost use mathlib.Core.List.{List};
 ghost use Prim.Native.Nat.{ℕ, _+_, _<_, _≤_};
 ghost use lib.ListN.{length};
 ghost use Rattle.state.specs.Facts.{HostFit};
+ghost use Rattle.listing.specs.Run.{Ahead};
 ghost use Rattle.pouring.specs.Pour.{noBed, bedIn, bedOf, streamOf, pours as poursOf, mineOn, stays as staysOf, stayNote, pouredPhase as pouredPhaseOf, poured as pouredOf};
-ghost use Rattle.pouring.specs.Poured.{Ahead, Poured};
+ghost use Rattle.pouring.specs.Poured.{Poured};
 
 // What such words move.
 pub struct Stream {
@@ -370,6 +371,7 @@ pub fn poured(bridge: Bridge, s: Stream) -> Bridge
     let frame = Frame {
         phase: phase,
         held: held,
+        xmodem: before.xmodem,
     };
     let mut after = bridge;
     after.control = control;

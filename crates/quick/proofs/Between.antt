@@ -8,7 +8,7 @@ use lib.Dec.{ltb, leb}
 use borrow.Author.Tests.{ltb-true, leb-true, eqb-true, lt-leb, ltb-false}
 use Rattle.base.specs.Pick.{pick, pick-lt, pick-not-lt, pick-keeps, and-l, and-r}
 use Rattle.base.specs.Truth.{denied, allowed, chosen-by, chosen, and-first, and-none}
-use Rattle.command.specs.Layouts.{ours}
+use Rattle.command.specs.Layouts.{layouts}
 use Rattle.line.specs.Format.{pieceLength}
 use Rattle.line.specs.Reader.{hear}
 use Rattle.line.specs.declared.Found.{Found}
@@ -189,15 +189,15 @@ pub to-passed : (b : Bridge) (e : Event) (sin : Bool) (heard : Heard) (receiving
     })
     tx
     rx
-    ≡ turn ours b tx rx e
+    ≡ turn layouts b tx rx e
 unfolding passes turn turned reacted written
-to-passed b (Power good) sin heard receiving sender sout control clock tx rx p i h r s o c k = cc
+to-passed b (Power good layout) sin heard receiving sender sout control clock tx rx p i h r s o c k = cc
 to-passed b (Word word) sin heard receiving sender sout control clock tx rx p i h r s o c k = cc
 to-passed b Release sin heard receiving sender sout control clock tx rx p i h r s o c k = cc
 to-passed b (Tick bit) sin heard receiving sender sout control clock tx rx p i h r s o c k =
     rw (tick-short b bit _ p, r, h, s, o, c, k, i, sender-by, bit-by) refl
 to-passed b (ClockReading reading) sin heard receiving sender sout control clock tx rx p i h r s o c k = cc
 
-pub to-short : (b : Bridge) (e : Event) (a : Answer) (tx rx : List ℕ) → ((t u : List ℕ) → out a t u ≡ turn ours b t u e)
-    → out a tx rx ≡ turn ours b tx rx e
+pub to-short : (b : Bridge) (e : Event) (a : Answer) (tx rx : List ℕ) → ((t u : List ℕ) → out a t u ≡ turn layouts b t u e)
+    → out a tx rx ≡ turn layouts b tx rx e
 to-short b e a tx rx f = f tx rx

@@ -37,14 +37,14 @@ unfoldable pub passesBy : Bridge → Found → Bool
 passesBy b f = pick (isNothing f) (pick (inPiece (b .sending .sender)) true (rests (b .sending) (mayStart (b .control)))) false
 
 abbrev pub sinOf : Event → Bool
-sinOf (Power good) = false
+sinOf (Power good layout) = false
 sinOf (Word word) = false
 sinOf Release = false
 sinOf (Tick sin) = sin
 sinOf (Clock reading) = false
 
 unfoldable pub passes : Bridge → Event → Bool
-passes b (Power good) = false
+passes b (Power good layout) = false
 passes b (Word word) = false
 passes b Release = false
 passes b (Tick sin) = passesBy b (hear (b .receiving .reader .ear) sin .found)

@@ -14,7 +14,7 @@ ghost use mathlib.Core.Bool.{true};
 ghost use mathlib.Core.List.{List};
 ghost use Prim.Native.Nat.{ℕ, _≤_};
 ghost use Rattle.base.specs.Pick.{pick};
-ghost use Rattle.command.specs.Layouts.{ours};
+ghost use Rattle.command.specs.Layouts.{layouts};
 ghost use Rattle.next.specs.Next.{bitSent};
 ghost use Rattle.sender.specs.Sender.{senderAfter};
 ghost use Rattle.next.specs.declared.Next.the-variants.{GoOn, Stay};
@@ -79,7 +79,7 @@ fn passes(bridge: Bridge, event: Event) -> bool
     ensures { λ r. ⌜ r ≡ passesOf bridge event ⌝ }
 {
     match event {
-        Event::Power(_) => false,
+        Event::Power { good: _, layout: _ } => false,
         Event::Word(_) => false,
         Event::Release => false,
         Event::Tick(sin) => {
@@ -98,7 +98,7 @@ fn sin_of(event: Event) -> bool
     ensures { λ r. ⌜ r ≡ sinOf event ⌝ }
 {
     match event {
-        Event::Power(_) => false,
+        Event::Power { good: _, layout: _ } => false,
         Event::Word(_) => false,
         Event::Release => false,
         Event::Tick(sin) => sin,
@@ -139,7 +139,7 @@ fn bit_sent(sender: Sender) -> bool
 fn passed(bridge: Bridge, event: Event) -> Answer
     requires { ⌜ HostFit bridge ⌝ }
     requires { ⌜ passesOf bridge event ≡ true ⌝ }
-    ensures { λ r. ⌜ ((tx rx : List ℕ) → out r tx rx ≡ turnOf ours bridge tx rx event) ⌝ }
+    ensures { λ r. ⌜ ((tx rx : List ℕ) → out r tx rx ≡ turnOf layouts bridge tx rx event) ⌝ }
 {
     let sin = sin_of(event);
     let reader = bridge.receiving.reader;
@@ -169,7 +169,7 @@ fn passed(bridge: Bridge, event: Event) -> Answer
 // An event on stores of the right lengths and a record that obeys the rules.
 pub fn turn(bridge: Bridge, tx: &mut [u16], rx: &mut [u16], event: Event) -> Answer
     requires { ⌜ Ready bridge (now tx) (now rx) ⌝ }
-    ensures { λ r. ⌜ out r (now (tx .exit)) (now (rx .exit)) ≡ turnOf ours bridge (now (tx .entry)) (now (rx .entry)) event ⌝ }
+    ensures { λ r. ⌜ out r (now (tx .exit)) (now (rx .exit)) ≡ turnOf layouts bridge (now (tx .entry)) (now (rx .entry)) event ⌝ }
 {
     if passes(bridge, event) {
         return passed(bridge, event);

@@ -1,14 +1,15 @@
 -- Flags in their places and the decisions by number, as the proofs of the functions ask them. Assumes nothing.
 use mathlib.Core.Path.{_≡_, refl, sym, _∙_, ap}
 use mathlib.Core.Bool.{Bool, true, false}
-use Prim.Native.Nat.{ℕ, suc, _-_, _*_, _%_, _^_, _≤_, _<_, zero-le}
+use Prim.Native.Nat.{ℕ, suc, _+_, _-_, _*_, _%_, _^_, _≤_, _<_, zero-le}
 use native.Mathlib.Nat.{pow-le-pow-right, zero-lt-suc}
 use native.Mathlib.Omega.{arith}
 use Rattle.base.specs.Arms.{past}
 use Rattle.base.specs.Bits.{bit, flag}
 use Rattle.registers.specs.declared.Control.{Control}
 use Rattle.registers.specs.declared.Flags.{Flags}
-use Rattle.registers.specs.Registers.{readOf}
+use Rattle.registers.specs.declared.Register.{Register}
+use Rattle.registers.specs.Registers.{rowOf, modeNumber, ccsi, txff, rxff, err, statusOf, readOf}
 
 -- a flag's place in a word of sixteen bits
 place-lt : (k : ℕ) → k < 16 → 2 ^ k < 65536
@@ -24,10 +25,28 @@ pub flag-down : (k : ℕ) (b : Bool) → b ≡ false → 0 ≡ flag k b
 unfolding flag
 flag-down k b e = rw e refl
 
+-- STATUS by its parts
+pub to-status : (c : Control) (x14 x12 x11 x10 x9 x8 x7 x6 x4 x3 x1 x0 : ℕ) (e : Bool) → x14 ≡ flag 14 (ccsi (c .flags)) → x12 ≡ flag 12 (txff (c .flags))
+    → x11 ≡ flag 11 (rxff (c .flags)) → x10 ≡ flag 10 (c .drdy) → x9 ≡ flag 9 (c .flags .srst) → x8 ≡ flag 8 (c .flags .«spi_cs»)
+    → x7 ≡ flag 7 (c .flags .«reg_write») → x6 ≡ flag 6 (c .flags .«spi_crc») → x4 ≡ modeNumber (c .mode) → x3 ≡ flag 3 (c .flags .otp)
+    → x1 ≡ flag 1 (c .flags .por) → x0 ≡ flag 0 e → e ≡ err c
+    → x14 + x12 + x11 + x10 + x9 + x8 + x7 + x6 + x4 * 16 + x3 + x1 + x0 ≡ statusOf c
+unfolding statusOf
+to-status c x14 x12 x11 x10 x9 x8 x7 x6 x4 x3 x1 x0 e a b d f g h i j k l m n o = rw (a, b, d, f, g, h, i, j, k, l, m, n, o) refl
+
 module _ (c : Control) (t r a : ℕ) where
   -- an arm knows the number
   pub to-read : (k x : ℕ) → a ≡ k → x ≡ readOf c t r k → x ≡ readOf c t r a
   to-read k x e f = f ∙ ap (λ (n : ℕ). readOf c t r n) (sym e)
+
+  -- what the table alone tells
+  pub to-devid : (x : Register) → a ≡ 0 → x ≡ rowOf (c .regs .layout) 0 → x .reset ≡ readOf c t r a
+  unfolding readOf
+  to-devid x e f = rw (e, f) refl
+
+  pub to-devctrl : (x : Register) → a ≡ 5 → x ≡ rowOf (c .regs .layout) 5 → x .reset ≡ readOf c t r a
+  unfolding readOf
+  to-devctrl x e f = rw (e, f) refl
 
   beyond : 12 ≤ a → 0 ≡ readOf c t r a
   unfolding readOf

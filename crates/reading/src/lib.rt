@@ -2,9 +2,9 @@
 use registers::Control;
 use registers::Flags;
 use registers::Mode;
-use registers::TABLE;
 use registers::bit;
 use registers::is_failsafe;
+use registers::row;
 ghost use mathlib.Core.Path.{_≡_};
 ghost use Prim.Native.Nat.{_^_, _≤_, _<_, min};
 ghost use Rattle.base.specs.Bits.{flag as flagOf};
@@ -126,13 +126,15 @@ pub fn read(control: Control, tx_count: u16, rx_count: u16, address: u16) -> u16
     ensures { λ r. ⌜ r ≡ readOf control «tx_count» «rx_count» address ⌝ }
 {
     let flags = control.flags;
+    let regs = control.regs;
+    let layout = regs.layout;
     match address {
-        0 => TABLE[0].reset,
+        0 => row(layout, 0).reset,
         1 => control.regs.spictrl,
         2 => control.regs.ccsictrl,
         3 => control.regs.txfflvl,
         4 => control.regs.rxfflvl,
-        5 => TABLE[5].reset,
+        5 => row(layout, 5).reset,
         6 => control.regs.diagmask,
         7 => status(control),
         8 => ifst(flags),

@@ -1,6 +1,7 @@
 // A record as numbers, in the order of the columns of crates/refusals/stdin: made of them, told as them, and compared with them. `refusals` and
 // `states` use it. A variant is its number in the order of its type, and a bool is 0 or 1: `is` of `built` tells numbers that are no record's.
 use command::Command;
+use layout::Layout;
 use line::Ear;
 use line::Piece;
 use registers::Control;
@@ -21,10 +22,10 @@ use state::Sender;
 use state::Sending;
 ghost use Prim.Native.Nat.{_≤_};
 
-pub const COLUMNS: usize = 142;
+pub const COLUMNS: usize = 144;
 
 // Those of the state; behind them are the cells of the lent stores.
-const STATE: usize = 140;
+const STATE: usize = 142;
 
 pub type Fields = [u16; COLUMNS];
 
@@ -72,12 +73,20 @@ fn mode(number: u16) -> Mode {
     }
 }
 
+fn layout(number: u16) -> Layout {
+    match number {
+        0 => Layout::Ours,
+        _ => Layout::Makers,
+    }
+}
+
 fn control(f: &Fields) -> Control {
     Control {
         mode: mode(at(f, 0)),
         drdy: on(f, 6),
         flags: flags(f),
         regs: Regs {
+            layout: layout(at(f, 140)),
             spictrl: at(f, 1),
             ccsictrl: at(f, 2),
             txfflvl: at(f, 3),
@@ -265,6 +274,7 @@ pub fn built(f: &Fields) -> Bridge {
         frame: Frame {
             phase: phase(held_at(f, 53), held_at(f, 60)),
             held: [at(f, 38); 12],
+            xmodem: on(f, 141),
         },
         clock: Clock {
             reading: at(f, 30),
@@ -290,6 +300,13 @@ fn held(kind: u16, a: u16, b: u16, c: u16, d: u16, x: bool, y: bool) -> Parts {
 
 fn bare(kind: u16) -> Parts {
     held(kind, 0, 0, 0, 0, false, false)
+}
+
+fn of_layout(layout: Layout) -> u16 {
+    match layout {
+        Layout::Ours => 0,
+        Layout::Makers => 1,
+    }
 }
 
 fn of_mode(mode: Mode) -> u16 {
@@ -440,6 +457,7 @@ fn put_places(f: &mut Fields, queue: Queue) {
 fn put_control(f: &mut Fields, c: Control) {
     let mode = c.mode;
     let r = c.regs;
+    let layout = r.layout;
     let g = c.flags;
     let bits = [
         c.drdy,
@@ -469,6 +487,7 @@ fn put_control(f: &mut Fields, c: Control) {
     put(f, 0, &numbers);
     put_bits(f, 6, &bits);
     set(f, 139, g.bad_word);
+    set(f, 140, of_layout(layout));
 }
 
 fn put_counts(f: &mut Fields, s: Sending, r: Receiving, c: Clock) {
@@ -495,6 +514,7 @@ fn put_counts(f: &mut Fields, s: Sending, r: Receiving, c: Clock) {
 fn put_frame(f: &mut Fields, frame: Frame) {
     let phase = frame.phase;
     set(f, 38, frame.held[0]);
+    put_bits(f, 141, &[frame.xmodem]);
     put_parts(f, 53, of_phase(phase));
     put_parts(f, 60, of_open(phase));
 }

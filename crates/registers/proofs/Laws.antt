@@ -10,24 +10,28 @@ use borrow.Author.Tests.{lt-ltb, eq-eqb, ltb-true, eqb-true}
 use Rattle.base.specs.Bits.{bit, odd, flag}
 use Rattle.base.specs.Pick.{pick-keeps, and-l, and-r}
 use Rattle.base.specs.Table.{holds-at}
+use Rattle.layout.specs.declared.Layout.{Layout}
+use Rattle.layout.specs.declared.Layout.the-variants.{Ours, Makers}
 use Rattle.registers.specs.declared.Register.{Register}
 use Rattle.registers.specs.declared.Regs.{Regs}
 use Rattle.registers.specs.declared.Control.{Control}
 use Rattle.registers.specs.declared.Written.{Written}
-use Rattle.registers.specs.Registers.{row, table, rowOf, resetRegs, regsSound, isFailsafe, modeNumber, err, statusOf, ifstOf, fifoOf, readOf, powerUpFlags, powerUpControl}
+use Rattle.registers.specs.Registers.{row, tableOf, rowOf, resetRegs, regsSound, isFailsafe, modeNumber, err, statusOf, ifstOf, fifoOf, readOf, powerUpFlags, powerUpControl}
 use Rattle.registers.specs.Writing.{withSpictrl, withTxfflvl, withRxfflvl, withDiagmask, writeCcsictrl, writeTxfflvl, writeRxfflvl, writeStatus, writeMasked, writeOf}
 
--- The reset column of the table, by one test along it.
-resets : ℕ → Register → Bool
-resets address entry = eqb (readOf powerUpControl 0 0 address) (entry .reset)
+-- The reset column of a table, by one test along it.
+resets : Layout → ℕ → Register → Bool
+resets layout address entry = eqb (readOf (powerUpControl layout) 0 0 address) (entry .reset)
 
-pub reset-reads : (a : ℕ) → a < 12 → readOf powerUpControl 0 0 a ≡ rowOf a .reset
-unfolding resets table readOf powerUpControl powerUpFlags resetRegs statusOf ifstOf fifoOf err bit odd flag
-reset-reads a h = eqb-true _ _ (holds-at resets (row 0 0) table refl a h)
+pub reset-reads : (layout : Layout) (a : ℕ) → a < 12 → readOf (powerUpControl layout) 0 0 a ≡ rowOf layout a .reset
+unfolding resets tableOf readOf powerUpControl powerUpFlags resetRegs statusOf ifstOf fifoOf err bit odd flag
+reset-reads Ours a h = eqb-true _ _ (holds-at (resets Ours) (row 0 0) (tableOf Ours) refl a h)
+reset-reads Makers a h = eqb-true _ _ (holds-at (resets Makers) (row 0 0) (tableOf Makers) refl a h)
 
-pub reset-sound : regsSound resetRegs ≡ true
-unfolding resetRegs table
-reset-sound = refl
+pub reset-sound : (layout : Layout) → regsSound (resetRegs layout) ≡ true
+unfolding resetRegs tableOf
+reset-sound Ours = refl
+reset-sound Makers = refl
 
 -- what a mask let through, it lets through
 low : (n m : ℕ) → min (bitAnd n m % 2) (m % 2) ≡ min (n % 2) (m % 2)
@@ -47,7 +51,7 @@ level-le v m = let e = and-mod v m 15 in let l = and-le-r (v % 32768) (m % 32768
 -- the record rule as facts
 module _ (r : Regs) where
   module _ (s : regsSound r ≡ true) where
-    pub spictrl-masked : bitAnd (r .spictrl) (rowOf 1 .writable) ≡ r .spictrl
+    pub spictrl-masked : bitAnd (r .spictrl) (rowOf (r .layout) 1 .writable) ≡ r .spictrl
     spictrl-masked = eqb-true _ _ (search (and-l, and-r))
 
     pub txfflvl-lt : r .txfflvl < 512
@@ -56,34 +60,47 @@ module _ (r : Regs) where
     pub rxfflvl-lt : r .rxfflvl < 256
     rxfflvl-lt = ltb-true _ _ (search (and-l, and-r))
 
-    pub diagmask-masked : bitAnd (r .diagmask) (rowOf 6 .writable) ≡ r .diagmask
+    pub diagmask-masked : bitAnd (r .diagmask) (rowOf (r .layout) 6 .writable) ≡ r .diagmask
     diagmask-masked = eqb-true _ _ (search (and-l, and-r))
 
-  pub sound : bitAnd (r .spictrl) (rowOf 1 .writable) ≡ r .spictrl → r .txfflvl < 512 → r .rxfflvl < 256
-      → bitAnd (r .diagmask) (rowOf 6 .writable) ≡ r .diagmask → regsSound r ≡ true
+  pub sound : bitAnd (r .spictrl) (rowOf (r .layout) 1 .writable) ≡ r .spictrl → r .txfflvl < 512 → r .rxfflvl < 256
+      → bitAnd (r .diagmask) (rowOf (r .layout) 6 .writable) ≡ r .diagmask → regsSound r ≡ true
   sound e t u f = rw (eq-eqb _ _ e, lt-ltb _ _ t, lt-ltb _ _ u, eq-eqb _ _ f) refl
 
 abbrev Sound : Written → Type 0
 Sound w = regsSound (w .control .regs) ≡ true
 
+-- both tables let as much of a level through
+tx-level : (layout : Layout) (v : ℕ) → bitAnd v (rowOf layout 3 .writable) % 32768 < 512
+unfolding tableOf
+tx-level Ours v = let l : bitAnd v 0x81FF % 32768 ≤ 511 = level-le v 0x81FF in omega (arith, l)
+tx-level Makers v = let l : bitAnd v 0x81FF % 32768 ≤ 511 = level-le v 0x81FF in omega (arith, l)
+
+rx-level : (layout : Layout) (v : ℕ) → bitAnd v (rowOf layout 4 .writable) % 32768 < 256
+unfolding tableOf
+rx-level Ours v = let l : bitAnd v 0x80FF % 32768 ≤ 255 = level-le v 0x80FF in omega (arith, l)
+rx-level Makers v = let l : bitAnd v 0x80FF % 32768 ≤ 255 = level-le v 0x80FF in omega (arith, l)
+
 pub write-sound : (c : Control) (busy : Bool) (a v : ℕ) → regsSound (c .regs) ≡ true → regsSound (writeOf c busy a v .control .regs) ≡ true
-unfolding writeOf writeMasked writeCcsictrl writeTxfflvl writeRxfflvl writeStatus table
+unfolding writeOf writeMasked writeCcsictrl writeTxfflvl writeRxfflvl writeStatus
 write-sound c busy zero v s = s
 write-sound c busy (suc zero) v s =
     let r = c .regs in
-    sound (withSpictrl r (bitAnd v 0xFF01)) (and-again v 0xFF01) (txfflvl-lt r s) (rxfflvl-lt r s) (diagmask-masked r s)
+    let m = rowOf (r .layout) 1 .writable in
+    sound (withSpictrl r (bitAnd v m)) (and-again v m) (txfflvl-lt r s) (rxfflvl-lt r s) (diagmask-masked r s)
 write-sound c busy (suc (suc zero)) v s = pick-keeps Sound busy _ _ (λ h. s) (λ h. s)
 write-sound c busy (suc (suc (suc zero))) v s =
     let r = c .regs in
-    let l : bitAnd v 0x81FF % 32768 ≤ 511 = level-le v 0x81FF in
-    sound (withTxfflvl r (bitAnd v 0x81FF % 32768)) (spictrl-masked r s) (omega (arith, l)) (rxfflvl-lt r s) (diagmask-masked r s)
+    let l = bitAnd v (rowOf (r .layout) 3 .writable) % 32768 in
+    sound (withTxfflvl r l) (spictrl-masked r s) (tx-level (r .layout) v) (rxfflvl-lt r s) (diagmask-masked r s)
 write-sound c busy (suc (suc (suc (suc zero)))) v s =
     let r = c .regs in
-    let l : bitAnd v 0x80FF % 32768 ≤ 255 = level-le v 0x80FF in
-    sound (withRxfflvl r (bitAnd v 0x80FF % 32768)) (spictrl-masked r s) (txfflvl-lt r s) (omega (arith, l)) (diagmask-masked r s)
+    let l = bitAnd v (rowOf (r .layout) 4 .writable) % 32768 in
+    sound (withRxfflvl r l) (spictrl-masked r s) (txfflvl-lt r s) (rx-level (r .layout) v) (diagmask-masked r s)
 write-sound c busy (suc (suc (suc (suc (suc zero))))) v s = s
 write-sound c busy (suc (suc (suc (suc (suc (suc zero)))))) v s =
     let r = c .regs in
-    sound (withDiagmask r (bitAnd v 0x0B01)) (spictrl-masked r s) (txfflvl-lt r s) (rxfflvl-lt r s) (and-again v 0x0B01)
+    let m = rowOf (r .layout) 6 .writable in
+    sound (withDiagmask r (bitAnd v m)) (spictrl-masked r s) (txfflvl-lt r s) (rxfflvl-lt r s) (and-again v m)
 write-sound c busy (suc (suc (suc (suc (suc (suc (suc zero))))))) v s = pick-keeps Sound _ _ _ (λ h. s) (λ h. s)
 write-sound c busy (suc (suc (suc (suc (suc (suc (suc (suc a)))))))) v s = s

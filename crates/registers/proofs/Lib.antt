@@ -1,4 +1,5 @@
 mod Raised
 mod Sixteen
 pub mod Laws
+mod Arms
 mod Examples

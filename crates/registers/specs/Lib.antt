@@ -1,3 +1,4 @@
 pub mod Registers
 pub mod Raising
 pub mod Writing
+pub mod Spictrl

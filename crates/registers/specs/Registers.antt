@@ -1,4 +1,4 @@
--- The registers and what each address reads (01 Registers; 02 item 4; 001 7.6.1 to 7.6.11). Assumes nothing.
+-- The registers and what each address reads (01 Registers; 02 items 4 and 7; 001 7.6.1 to 7.6.11). Assumes nothing.
 use mathlib.Core.Bool.{Bool, true, false, not, _&&_, _||_}
 use mathlib.Core.List.{List, [], _∷_}
 use Prim.Native.Nat.{ℕ, _+_, _*_, min}
@@ -6,6 +6,8 @@ use lib.Bits.{bitAnd}
 use lib.Dec.{ltb, eqb}
 use lib.ListN.{getD}
 use Rattle.base.specs.Bits.{bit, flag}
+use Rattle.layout.specs.declared.Layout.{Layout}
+use Rattle.layout.specs.declared.Layout.the-variants.{Ours, Makers}
 use Rattle.registers.specs.declared.Register.{Register}
 use Rattle.registers.specs.declared.Mode.{Mode}
 use Rattle.registers.specs.declared.Mode.the-variants.{Normal, Init, Failsafe}
@@ -13,18 +15,14 @@ use Rattle.registers.specs.declared.Flags.{Flags}
 use Rattle.registers.specs.declared.Regs.{Regs}
 use Rattle.registers.specs.declared.Control.{Control}
 
--- a row of 01's table: what the register reads after power-up, and the bits that a write reaches
+-- a row of a table: what the register reads after power-up, and the bits that a write reaches
 abbrev pub row : ℕ → ℕ → Register
 row reset writable = record { reset = reset; writable = writable }
 
--- The table (01 Registers, where 0 to 3 and the clear bits are ours; docs/NUMBERS.md says what of them the sheet has too).
-unfoldable pub table : List Register
-table =
-    row 0x0000 0x0000  -- 0 DEVID. ours (001 7.6.1 has 0xED99)
-    ∷ row 0x0000 0xFF01  -- 1 SPICTRL: bits 15..8 watchdog ms (0 off), bit 0 no answer. ours; bit 0 as 001 7.6.2
-    ∷ row 0x0000 0xFFFF  -- 2 CCSICTRL. ours, as 001 7.6.3
-    ∷ row 0x003F 0x81FF  -- 3 TXFFLVL: bits 8..0; bit 15 clears. ours, as 001 7.6.4; its reset value 02 item 2
-    ∷ row 0x00FF 0x80FF  -- 4 RXFFLVL: bits 7..0; bit 15 clears. 001 7.6.5
+-- The rows that both tables have.
+abbrev pub fromRxfflvl : List Register
+fromRxfflvl =
+    row 0x00FF 0x80FF  -- 4 RXFFLVL: bits 7..0; bit 15 clears. 001 7.6.5
     ∷ row 0x0000 0x0005  -- 5 DEVCTRL: 2 force, 0 exit failsafe. 001 7.6.6
     ∷ row 0x0000 0x0B01  -- 6 DIAGMASK: bits 11, 9, 8, 0. 001 7.6.7
     ∷ row 0x0403 0x8000  -- 7 STATUS: bit 15 clears flags. 001 7.6.8
@@ -34,17 +32,33 @@ table =
     ∷ row 0x0000 0x0000  -- 11 BADWORD: the word whose check bit was bad. 02 item 4; its name is ours
     ∷ []
 
-abbrev pub rowOf : ℕ → Register
-rowOf address = getD table address (row 0 0)
+-- The tables (01 Registers, where 0 to 3 and the clear bits are ours; 001 7.6, 02 item 7; docs/NUMBERS.md has them side by side).
+unfoldable pub tableOf : Layout → List Register
+tableOf Ours =
+    row 0x0000 0x0000  -- 0 DEVID. ours
+    ∷ row 0x0000 0xFF01  -- 1 SPICTRL: bits 15..8 watchdog ms (0 off), bit 0 no answer. ours; bit 0 as 001 7.6.2
+    ∷ row 0x0000 0xFFFF  -- 2 CCSICTRL. ours, as 001 7.6.3
+    ∷ row 0x003F 0x81FF  -- 3 TXFFLVL: bits 8..0; bit 15 clears. ours, as 001 7.6.4; its reset value 02 item 2
+    ∷ fromRxfflvl
+tableOf Makers =
+    row 0xED99 0x0000  -- 0 DEVID. 001 7.6.1
+    ∷ row 0x00A0 0x30F7  -- 1 SPICTRL: bits 13..12 watchdog, 7..4 timeout, 2 CRC algorithm, 1 SDO disable, 0 no answer. 001 7.6.2
+    ∷ row 0x0000 0xFFFF  -- 2 CCSICTRL. as ours (docs/DECISIONS.md)
+    ∷ row 0x01FF 0x81FF  -- 3 TXFFLVL. 001 7.6.4
+    ∷ fromRxfflvl
+
+abbrev pub rowOf : Layout → ℕ → Register
+rowOf layout address = getD (tableOf layout) address (row 0 0)
 
 -- the registers that hold what was written, after power-up
-unfoldable pub resetRegs : Regs
-resetRegs = record {
-  spictrl = rowOf 1 .reset;
-  ccsictrl = rowOf 2 .reset;
-  txfflvl = rowOf 3 .reset;
-  rxfflvl = rowOf 4 .reset;
-  diagmask = rowOf 6 .reset;
+unfoldable pub resetRegs : Layout → Regs
+resetRegs layout = record {
+  layout = layout;
+  spictrl = rowOf layout 1 .reset;
+  ccsictrl = rowOf layout 2 .reset;
+  txfflvl = rowOf layout 3 .reset;
+  rxfflvl = rowOf layout 4 .reset;
+  diagmask = rowOf layout 6 .reset;
 }
 
 -- the levels that TXFFLVL's and RXFFLVL's fields can hold: bits 8..0 and 7..0. 001 7.6.4, 7.6.5
@@ -57,8 +71,8 @@ rxLevels = 256
 -- Record rule: the registers hold no bit that a write cannot reach, so that bits that are not writable read 0 (docs/DECISIONS.md).
 abbrev pub regsSound : Regs → Bool
 regsSound r =
-    eqb (bitAnd (r .spictrl) (rowOf 1 .writable)) (r .spictrl) && ltb (r .txfflvl) txLevels && ltb (r .rxfflvl) rxLevels
-    && eqb (bitAnd (r .diagmask) (rowOf 6 .writable)) (r .diagmask)
+    eqb (bitAnd (r .spictrl) (rowOf (r .layout) 1 .writable)) (r .spictrl) && ltb (r .txfflvl) txLevels && ltb (r .rxfflvl) rxLevels
+    && eqb (bitAnd (r .diagmask) (rowOf (r .layout) 6 .writable)) (r .diagmask)
 
 -- "Clearing clears all but OTP"; the number of the bad word goes with its flag (02 item 4)
 unfoldable pub cleared : Flags → Flags
@@ -144,12 +158,12 @@ fifoOf ovf uvf most count = flag 15 ovf + flag 14 uvf + min count most
 unfoldable pub readOf : Control → ℕ → ℕ → ℕ → ℕ
 readOf c txCount rxCount address =
     getD
-    (rowOf 0 .reset
+    (rowOf (c .regs .layout) 0 .reset
     ∷ c .regs .spictrl
     ∷ c .regs .ccsictrl
     ∷ c .regs .txfflvl
     ∷ c .regs .rxfflvl
-    ∷ rowOf 5 .reset
+    ∷ rowOf (c .regs .layout) 5 .reset
     ∷ c .regs .diagmask
     ∷ statusOf c
     ∷ ifstOf (c .flags)
@@ -177,8 +191,8 @@ powerUpFlags = record {
   txffuvf = false;
   rxffovf = false;
   rxffuvf = false;
-  «bad_word» = rowOf 11 .reset;
+  «bad_word» = 0;
 }
 
-unfoldable pub powerUpControl : Control
-powerUpControl = record { mode = Normal; drdy = true; flags = powerUpFlags; regs = resetRegs }
+unfoldable pub powerUpControl : Layout → Control
+powerUpControl layout = record { mode = Normal; drdy = true; flags = powerUpFlags; regs = resetRegs layout }

@@ -31,19 +31,19 @@ abbrev pub written : Control → Effect → Written
 written c e = record { control = c; effect = e }
 
 abbrev pub withSpictrl : Regs → ℕ → Regs
-withSpictrl r v = record { spictrl = v; ccsictrl = r .ccsictrl; txfflvl = r .txfflvl; rxfflvl = r .rxfflvl; diagmask = r .diagmask }
+withSpictrl r v = record { layout = r .layout; spictrl = v; ccsictrl = r .ccsictrl; txfflvl = r .txfflvl; rxfflvl = r .rxfflvl; diagmask = r .diagmask }
 
 abbrev pub withCcsictrl : Regs → ℕ → Regs
-withCcsictrl r v = record { spictrl = r .spictrl; ccsictrl = v; txfflvl = r .txfflvl; rxfflvl = r .rxfflvl; diagmask = r .diagmask }
+withCcsictrl r v = record { layout = r .layout; spictrl = r .spictrl; ccsictrl = v; txfflvl = r .txfflvl; rxfflvl = r .rxfflvl; diagmask = r .diagmask }
 
 abbrev pub withTxfflvl : Regs → ℕ → Regs
-withTxfflvl r v = record { spictrl = r .spictrl; ccsictrl = r .ccsictrl; txfflvl = v; rxfflvl = r .rxfflvl; diagmask = r .diagmask }
+withTxfflvl r v = record { layout = r .layout; spictrl = r .spictrl; ccsictrl = r .ccsictrl; txfflvl = v; rxfflvl = r .rxfflvl; diagmask = r .diagmask }
 
 abbrev pub withRxfflvl : Regs → ℕ → Regs
-withRxfflvl r v = record { spictrl = r .spictrl; ccsictrl = r .ccsictrl; txfflvl = r .txfflvl; rxfflvl = v; diagmask = r .diagmask }
+withRxfflvl r v = record { layout = r .layout; spictrl = r .spictrl; ccsictrl = r .ccsictrl; txfflvl = r .txfflvl; rxfflvl = v; diagmask = r .diagmask }
 
 abbrev pub withDiagmask : Regs → ℕ → Regs
-withDiagmask r v = record { spictrl = r .spictrl; ccsictrl = r .ccsictrl; txfflvl = r .txfflvl; rxfflvl = r .rxfflvl; diagmask = v }
+withDiagmask r v = record { layout = r .layout; spictrl = r .spictrl; ccsictrl = r .ccsictrl; txfflvl = r .txfflvl; rxfflvl = r .rxfflvl; diagmask = v }
 
 -- Note 10: "CCSICTRL write while sender or reader is busy": "REG_WRITE flag, that register unchanged"
 unfoldable pub writeCcsictrl : Control → Bool → ℕ → Written
@@ -83,4 +83,4 @@ writeMasked c busy address v =
 
 -- "Bits that are not writable" are not written: the table's mask comes first
 unfoldable pub writeOf : Control → Bool → ℕ → ℕ → Written
-writeOf c busy address value = writeMasked c busy address (bitAnd value (rowOf address .writable))
+writeOf c busy address value = writeMasked c busy address (bitAnd value (rowOf (c .regs .layout) address .writable))

@@ -1,13 +1,17 @@
-// The registers (01 Registers; 02 item 4; 001 7.6): the table, the flags, what each address reads and what a write does. Only this crate knows
-// the places of their bits.
+// The registers (01 Registers; 02 items 4 and 7; 001 7.6): a table for each layout, the flags, what each address reads and what a write does. Only
+// this crate knows the places of their bits.
 mod raising;
+mod spictrl;
 mod word;
 
+use layout::Layout;
 pub use raising::raise;
 pub use raising::went_bad;
+pub use spictrl::dog_limit;
+pub use spictrl::is_xmodem;
 pub use word::bit;
 ghost use mathlib.Core.Path.{_≡_};
-ghost use Rattle.registers.specs.Registers.{cleared, blocking as blockingOf, isNormal, isFailsafe, regsSound, powerUpControl};
+ghost use Rattle.registers.specs.Registers.{cleared, blocking as blockingOf, isNormal, isFailsafe, rowOf, resetRegs, regsSound, powerUpControl};
 
 // What a register reads after power-up, and the bits that a write reaches.
 pub struct Register {
@@ -42,8 +46,9 @@ pub struct Flags {
     pub bad_word: u16,
 }
 
-// The registers that hold what was written.
+// The registers that hold what was written, and whose table they go by.
 pub struct Regs {
+    pub layout: Layout,
     pub spictrl: u16,
     pub ccsictrl: u16,
     pub txfflvl: u16,
@@ -87,7 +92,7 @@ pub struct Written {
 }
 
 // By address (01's table): what power-up, write and read go by.
-pub const TABLE: [Register; 12] = [
+pub const OURS: [Register; 12] = [
     // 0 DEVID
     Register {
         reset: 0x0000,
@@ -150,18 +155,92 @@ pub const TABLE: [Register; 12] = [
     },
 ];
 
+// The maker's (001 7.6), with register 11 behind it (02 item 4).
+pub const MAKERS: [Register; 12] = [
+    // 0 DEVID
+    Register {
+        reset: 0xED99,
+        writable: 0x0000,
+    },
+    // 1 SPICTRL
+    Register {
+        reset: 0x00A0,
+        writable: 0x30F7,
+    },
+    // 2 CCSICTRL
+    Register {
+        reset: 0x0000,
+        writable: 0xFFFF,
+    },
+    // 3 TXFFLVL
+    Register {
+        reset: 0x01FF,
+        writable: 0x81FF,
+    },
+    // 4 RXFFLVL
+    Register {
+        reset: 0x00FF,
+        writable: 0x80FF,
+    },
+    // 5 DEVCTRL
+    Register {
+        reset: 0x0000,
+        writable: 0x0005,
+    },
+    // 6 DIAGMASK
+    Register {
+        reset: 0x0000,
+        writable: 0x0B01,
+    },
+    // 7 STATUS
+    Register {
+        reset: 0x0403,
+        writable: 0x8000,
+    },
+    // 8 IFST
+    Register {
+        reset: 0x0000,
+        writable: 0x0000,
+    },
+    // 9 TXFFST
+    Register {
+        reset: 0x0000,
+        writable: 0x0000,
+    },
+    // 10 RXFFST
+    Register {
+        reset: 0x0000,
+        writable: 0x0000,
+    },
+    // 11 BADWORD
+    Register {
+        reset: 0x0000,
+        writable: 0x0000,
+    },
+];
+
 impl Regs {
-    pub const RESET: Regs = Regs {
-        spictrl: TABLE[1].reset,
-        ccsictrl: TABLE[2].reset,
-        txfflvl: TABLE[3].reset,
-        rxfflvl: TABLE[4].reset,
-        diagmask: TABLE[6].reset,
+    pub const OURS: Regs = Regs {
+        layout: Layout::Ours,
+        spictrl: OURS[1].reset,
+        ccsictrl: OURS[2].reset,
+        txfflvl: OURS[3].reset,
+        rxfflvl: OURS[4].reset,
+        diagmask: OURS[6].reset,
+    };
+
+    pub const MAKERS: Regs = Regs {
+        layout: Layout::Makers,
+        spictrl: MAKERS[1].reset,
+        ccsictrl: MAKERS[2].reset,
+        txfflvl: MAKERS[3].reset,
+        rxfflvl: MAKERS[4].reset,
+        diagmask: MAKERS[6].reset,
     };
 }
 
 impl Control {
-    // With good OTP. POR is up and DRDY is 1, as STATUS's reset value says.
+    // With good OTP, in our layout. POR is up and DRDY is 1, as STATUS's reset value says.
     pub const POWER_UP: Control = Control {
         mode: Mode::Normal,
         drdy: true,
@@ -180,16 +259,50 @@ impl Control {
             txffuvf: false,
             rxffovf: false,
             rxffuvf: false,
-            bad_word: TABLE[11].reset,
+            bad_word: OURS[11].reset,
         },
-        regs: Regs::RESET,
+        regs: Regs::OURS,
     };
 }
 
-pub fn power_up_control() -> Control
-    ensures { λ r. ⌜ r ≡ powerUpControl ⌝ }
+fn reset_regs(layout: Layout) -> Regs
+    ensures { λ r. ⌜ r ≡ resetRegs layout ⌝ }
 {
-    Control::POWER_UP
+    match layout {
+        Layout::Ours => Regs::OURS,
+        Layout::Makers => Regs::MAKERS,
+    }
+}
+
+// The registers as power-up leaves them, with good OTP.
+pub fn power_up_control(layout: Layout) -> Control
+    ensures { λ r. ⌜ r ≡ powerUpControl layout ⌝ }
+{
+    let regs = reset_regs(layout);
+    let mut control = Control::POWER_UP;
+    control.regs = regs;
+    control
+}
+
+// What the chosen layout's table has at an address; nothing where there is no register.
+pub fn row(layout: Layout, address: u16) -> Register
+    ensures { λ r. ⌜ r ≡ rowOf layout address ⌝ }
+{
+    if address < 12 {
+        let at = address as usize;
+        match layout {
+            Layout::Ours => {
+                return OURS[at];
+            }
+            Layout::Makers => {
+                return MAKERS[at];
+            }
+        }
+    }
+    Register {
+        reset: 0,
+        writable: 0,
+    }
 }
 
 // "Clearing clears all but OTP".
@@ -246,9 +359,10 @@ pub fn is_failsafe(mode: Mode) -> bool
 pub fn regs_sound(regs: Regs) -> bool
     ensures { λ r. ⌜ r ≡ regsSound regs ⌝ }
 {
-    let spictrl = regs.spictrl & TABLE[1].writable == regs.spictrl;
+    let layout = regs.layout;
+    let spictrl = regs.spictrl & row(layout, 1).writable == regs.spictrl;
     let txfflvl = regs.txfflvl < 512;
     let rxfflvl = regs.rxfflvl < 256;
-    let diagmask = regs.diagmask & TABLE[6].writable == regs.diagmask;
+    let diagmask = regs.diagmask & row(layout, 6).writable == regs.diagmask;
     spictrl & txfflvl & rxfflvl & diagmask
 }

@@ -12,12 +12,14 @@ use Rattle.base.specs.Pick.{pick, pick-keeps, and-l, and-r, and-both}
 use Rattle.line.specs.Format.{pieceLength}
 use Rattle.line.specs.declared.Piece.{Piece}
 use Rattle.line.specs.declared.Piece.the-variants.{Pause, StartBit, WordPiece, EndPiece}
-use Rattle.registers.specs.Registers.{table, resetRegs, powerUpFlags, powerUpControl, blocking, regsSound}
+use Rattle.layout.specs.declared.Layout.{Layout}
+use Rattle.layout.specs.declared.Layout.the-variants.{Ours, Makers}
+use Rattle.registers.specs.Registers.{tableOf, resetRegs, powerUpFlags, powerUpControl, blocking, regsSound}
 use Rattle.state.specs.Queue.{noPlace, placeAt, waiting, wordsOf, underWay, isDone, lastBegun, speaking, placesIn}
 use Rattle.state.specs.Sending.{idle}
 use Rattle.state.specs.Frame.{mineOf, toCome, phaseSound}
 use Rattle.state.specs.Facts.{RingFit, QueueFit, SendFit, HostFit}
-use Rattle.state.specs.Power.{powerUp, powerUpBad, badControl}
+use Rattle.state.specs.Power.{powerUpIn, powerUpBadIn, badControl}
 use Rattle.state.specs.declared.Ring.{Ring}
 use Rattle.state.specs.declared.Place.{Place}
 use Rattle.state.specs.declared.Queue.{Queue}
@@ -29,7 +31,7 @@ use Rattle.queue.proofs.Laws.{busy-begun}
 use Rattle.rules.specs.Sound.{ringSound, lastLeft, ledger, sound}
 use Rattle.place_rules.specs.Places.{placeSound, isFresh, waits, awaits, roleSound, slotSound, slotsBelow, queueSound}
 use Rattle.line_rules.specs.Line.{pieceSound, senderSound, earSound, marksSound, readerSound, endSound}
-use Rattle.frame_rules.specs.Frames.{otpSound, controlSound, isUnmarked}
+use Rattle.frame_rules.specs.Frames.{otpSound, controlSound, isUnmarked, algorithmSound}
 use Rattle.rules.specs.Facts.{Standing, SenderFit, Balanced, Sound, allSome}
 
 pub ring-fit : (size : ℕ) (r : Ring) → ringSound size r ≡ true → RingFit size r
@@ -230,12 +232,13 @@ sound-facts b h =
       marks = and-r (earSound (b .receiving .reader .ear)) _ r;
       phase = search (and-l, and-r) depth 30;
       ledger = balanced (b .sending) (b .frame .phase) (search (and-l, and-r) depth 30);
+      algorithm = search (and-l, and-r) depth 30;
     }
 
 pub sound-from : (b : Bridge) → Sound b → sound b ≡ true
 sound-from b f =
     let m : (blocking (b .control .flags) && isUnmarked (b .frame .phase)) ≡ false = f .control .marked in
-    and-both _ _ (and-both _ _ (and-both _ _ (and-both _ _ (and-both _ _ (and-both _ _ (and-both _ _ (and-both _ _
+    and-both _ _ (and-both _ _ (and-both _ _ (and-both _ _ (and-both _ _ (and-both _ _ (and-both _ _ (and-both _ _ (and-both _ _
     (ring-from 512 (b .sending .tx) (f .tx))
     (ring-from 256 (b .receiving .rx) (f .rx)))
     (and-both _ _ (and-both _ _ (and-both _ _ (f .regs) (f .control .otp)) (f .control .drdy)) (f .control .word)))
@@ -244,7 +247,8 @@ sound-from b f =
     (and-both _ _ (f .ear) (f .marks)))
     (f .phase))
     (rw m))
-    (ledger-from (b .sending) (b .frame .phase) (f .ledger))
+    (ledger-from (b .sending) (b .frame .phase) (f .ledger)))
+    (f .algorithm)
 
 pub piece-most : (p : Piece) → pieceLength p ≤ 18
 piece-most Pause = omega arith
@@ -291,10 +295,12 @@ fit-of b f = record { sending = send-fit b f; rx = f .rx; phase = f .phase; mine
 pub host-fit : (b : Bridge) → sound b ≡ true → HostFit b
 host-fit b h = fit-of b (sound-facts b h)
 
-pub power-up-sound : sound powerUp ≡ true
-unfolding powerUp powerUpControl powerUpFlags resetRegs table noPlace endSound pieceSound slotsBelow slotSound earSound marksSound blocking isUnmarked phaseSound mineOf toCome waiting wordsOf placesIn pick
-power-up-sound = refl
+pub power-up-sound : (layout : Layout) → sound (powerUpIn layout) ≡ true
+unfolding powerUpIn powerUpControl powerUpFlags resetRegs tableOf noPlace endSound pieceSound slotsBelow slotSound earSound marksSound blocking isUnmarked phaseSound mineOf toCome waiting wordsOf placesIn pick
+power-up-sound Ours = refl
+power-up-sound Makers = refl
 
-pub power-up-bad-sound : sound powerUpBad ≡ true
-unfolding powerUpBad badControl powerUpControl powerUpFlags resetRegs table noPlace endSound pieceSound slotsBelow slotSound earSound marksSound blocking isUnmarked phaseSound mineOf toCome waiting wordsOf placesIn pick
-power-up-bad-sound = refl
+pub power-up-bad-sound : (layout : Layout) → sound (powerUpBadIn layout) ≡ true
+unfolding powerUpBadIn badControl powerUpControl powerUpFlags resetRegs tableOf noPlace endSound pieceSound slotsBelow slotSound earSound marksSound blocking isUnmarked phaseSound mineOf toCome waiting wordsOf placesIn pick
+power-up-bad-sound Ours = refl
+power-up-bad-sound Makers = refl

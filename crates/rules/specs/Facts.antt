@@ -20,7 +20,7 @@ use Rattle.state.specs.declared.Phase.{Phase}
 use Rattle.state.specs.declared.Bridge.{Bridge}
 use Rattle.place_rules.specs.Places.{waits, awaits}
 use Rattle.line_rules.specs.Line.{pieceSound, earSound, marksSound}
-use Rattle.frame_rules.specs.Frames.{otpSound, drdySound, badWordSound, isUnmarked}
+use Rattle.frame_rules.specs.Frames.{otpSound, drdySound, badWordSound, algorithmSound, isUnmarked}
 use Rattle.rules.specs.Sound.{lastLeft}
 
 -- the places in use are at most eight; each command older than the youngest that has begun is sent and not yet read, its ENDs gone, that one is not done, and
@@ -60,6 +60,7 @@ pub record Sound (b : Bridge) : Type 0 where
   pub marks : marksSound (b .receiving .reader .ear) (b .receiving .reader) (b .sending .queue) (b .control .flags) ≡ true
   pub phase : phaseSound (b .frame .phase) ≡ true
   pub ledger : Balanced (b .sending) (b .frame .phase)
+  pub algorithm : algorithmSound (b .control .regs .layout) (b .frame .xmodem) ≡ true
 
 -- what waits has something to send: so 01's sum of ticks holds
 unfoldable pub allSome : List Place → Bool

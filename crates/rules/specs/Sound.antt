@@ -13,7 +13,7 @@ use Rattle.state.specs.declared.Phase.{Phase}
 use Rattle.state.specs.declared.Bridge.{Bridge}
 use Rattle.place_rules.specs.Places.{queueSound}
 use Rattle.line_rules.specs.Line.{senderSound, readerSound}
-use Rattle.frame_rules.specs.Frames.{controlSound, flagsSound}
+use Rattle.frame_rules.specs.Frames.{controlSound, flagsSound, algorithmSound}
 
 -- a ring of so many cells
 abbrev pub ringSound : ℕ → Ring → Bool
@@ -35,3 +35,4 @@ sound b =
     && queueSound (b .sending .queue) && senderSound (b .sending .sender) (b .sending .queue)
     && readerSound (b .receiving .reader) (b .sending .queue) (b .control .flags) && phaseSound (b .frame .phase)
     && flagsSound (b .control .flags) (b .frame .phase) && ledger (b .sending) (b .frame .phase)
+    && algorithmSound (b .control .regs .layout) (b .frame .xmodem)

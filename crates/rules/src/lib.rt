@@ -40,6 +40,8 @@ pub fn sound(bridge: Bridge) -> bool
     ensures { λ r. ⌜ r ≡ soundOf bridge ⌝ }
 {
     let control = bridge.control;
+    let regs = control.regs;
+    let layout = regs.layout;
     let sending = bridge.sending;
     let receiving = bridge.receiving;
     let reader = receiving.reader;
@@ -55,4 +57,5 @@ pub fn sound(bridge: Bridge) -> bool
         & frame_rules::phase_sound(phase)
         & frame_rules::flags_sound(control.flags, phase)
         & ledger(sending, phase, waiting)
+        & frame_rules::algorithm_sound(layout, frame.xmodem)
 }

@@ -3,7 +3,7 @@ use mathlib.Core.Path.{_≡_, refl}
 use mathlib.Core.Bool.{true, false}
 use mathlib.Core.List.{List, [], _∷_}
 use native.Mathlib.Omega.{arith}
-use Rattle.state.specs.Power.{powerUp}
+use Rattle.state.specs.Power.{powerUp, powerUpIn}
 use Rattle.state.specs.Queue.{newPlace}
 use Rattle.state.specs.Sending.{stored, done}
 use Rattle.state.specs.declared.Deed.the-variants.{Leave, Enqueue}
@@ -15,7 +15,7 @@ abbrev acts : List Act
 acts = hosted (Put 0xAAF0) Leave ∷ hosted Keep (Enqueue (newPlace 1 2 false)) ∷ ticked true 0xAAF0 ∷ []
 
 alike : Alike (powerUp .sending) (powerUp .sending)
-unfolding powerUp
+unfolding powerUpIn
 alike =
     record {
       fits = record {
@@ -32,7 +32,7 @@ alike =
     }
 
 allowed : Allowed (powerUp .sending) (powerUp .sending) acts
-unfolding powerUp stored done newPlace
+unfolding powerUpIn stored done newPlace
 allowed = (tt, tt, ((omega arith, omega arith, omega arith), (omega arith, omega arith, omega arith), tt))
 
 pub pair-alike : bitsNow (powerUp .sending) acts ≡ bitsBefore (powerUp .sending) acts

@@ -5,7 +5,7 @@ use Prim.Native.Nat.{ℕ, _+_, _*_, _/_, _%_}
 use lib.Dec.{ltb, leb, eqb}
 use lib.ListN.{length, getD}
 use Rattle.base.specs.Pick.{pick}
-use Rattle.events.specs.declared.Event.{Event}
+use Rattle.layout.specs.declared.Layout.the-variants.{Ours, Makers}
 use Rattle.events.specs.declared.Event.the-variants.{Power, Word, Release, Tick, Clock}
 use Rattle.script.specs.declared.Record.{Record}
 use Rattle.script.specs.declared.Record.the-variants.{Good, Bad}
@@ -21,9 +21,14 @@ isHead s =
 abbrev pub valueOf : ℕ → ℕ → ℕ
 valueOf high low = high * 256 + low
 
--- "0 power (1 good, 0 bad)", "3 tick (0 or 1)"
-unfoldable pub bitRecord : (Bool → Event) → ℕ → Record
-bitRecord event value = pick (leb value 1) (Good (event (eqb value 1))) Bad
+-- "0 power (1 good, 0 bad)" is our layout's; the maker's is "script values 2 bad, 3 good" (02 item 7)
+unfoldable pub powerRecord : ℕ → Record
+powerRecord value =
+    getD (Good (Power false Ours) ∷ Good (Power true Ours) ∷ Good (Power false Makers) ∷ Good (Power true Makers) ∷ []) value Bad
+
+-- "3 tick (0 or 1)"
+unfoldable pub tickRecord : ℕ → Record
+tickRecord value = pick (leb value 1) (Good (Tick (eqb value 1))) Bad
 
 -- "2 release (0)"
 unfoldable pub releaseRecord : ℕ → Record
@@ -33,7 +38,7 @@ releaseRecord value = pick (eqb value 0) (Good Release) Bad
 unfoldable pub recordOf : ℕ → ℕ → Record
 recordOf kind value =
     getD
-    (bitRecord Power value ∷ Good (Word value) ∷ releaseRecord value ∷ bitRecord Tick value ∷ Good (Clock value) ∷ [])
+    (powerRecord value ∷ Good (Word value) ∷ releaseRecord value ∷ tickRecord value ∷ Good (Clock value) ∷ [])
     kind
     Bad
 

@@ -1,9 +1,10 @@
 // The event script and what is printed of it (01 The bench program).
 use events::Event;
+use layout::Layout;
 ghost use mathlib.Core.Path.{_≡_};
 ghost use Prim.Native.Nat.{_/_, _%_};
-ghost use Rattle.script.specs.Script.{isHead, valueOf, bitRecord, releaseRecord, recordOf, hexDigit, digit as digitOf, sign as signOf, lineOf};
-ghost use Rattle.events.specs.declared.Event.the-variants.{Power, Tick};
+ghost use Rattle.events.specs.declared.Event.the-variants.{Power};
+ghost use Rattle.script.specs.Script.{isHead, valueOf, powerRecord, tickRecord, releaseRecord, recordOf, hexDigit, digit as digitOf, sign as signOf, lineOf};
 
 // A record of the script: an event, or none.
 pub enum Record {
@@ -40,14 +41,25 @@ pub fn value(high: u8, low: u8) -> u16
     high as u16 * 256 + low as u16
 }
 
-fn power(value: u16) -> Record
-    ensures { λ r. ⌜ r ≡ bitRecord Power value ⌝ }
+fn powered(good: bool, layout: Layout) -> Record
+    ensures { λ r. ⌜ r ≡ Record.Good (Power good layout) ⌝ }
 {
-    if value <= 1 {
-        let good = value == 1;
-        return Record::Good(Event::Power(good));
+    Record::Good(Event::Power {
+        good: good,
+        layout: layout,
+    })
+}
+
+fn power(value: u16) -> Record
+    ensures { λ r. ⌜ r ≡ powerRecord value ⌝ }
+{
+    match value {
+        0 => powered(false, Layout::Ours),
+        1 => powered(true, Layout::Ours),
+        2 => powered(false, Layout::Makers),
+        3 => powered(true, Layout::Makers),
+        _ => Record::Bad,
     }
-    Record::Bad
 }
 
 fn release(value: u16) -> Record
@@ -60,7 +72,7 @@ fn release(value: u16) -> Record
 }
 
 fn tick(value: u16) -> Record
-    ensures { λ r. ⌜ r ≡ bitRecord Tick value ⌝ }
+    ensures { λ r. ⌜ r ≡ tickRecord value ⌝ }
 {
     if value <= 1 {
         let sin = value == 1;

@@ -3,6 +3,8 @@ use mathlib.Core.Bool.{Bool, true, false}
 use Prim.Native.Nat.{ℕ}
 use lib.ListN.{replicate}
 use Rattle.command.specs.Layout.{registersEnd}
+use Rattle.layout.specs.declared.Layout.{Layout}
+use Rattle.layout.specs.declared.Layout.the-variants.{Ours}
 use Rattle.line.specs.declared.Piece.the-variants.{Pause}
 use Rattle.line.specs.declared.Ear.the-variants.{Quiet}
 use Rattle.registers.specs.Registers.{powerUpControl}
@@ -26,37 +28,44 @@ poweredUp c = record {
     sender = record { piece = Pause; gone = 0; left = 0; ends = 0 };
   };
   receiving = record { rx = newRing; reader = record { ear = Quiet; belongs = false; storing = false; stored = false } };
-  frame = record { phase = Idle; held = replicate registersEnd 0 };
+  frame = record { phase = Idle; held = replicate registersEnd 0; xmodem = false };
   clock = record { reading = 0; mark = 0; watching = false; «watch_mark» = 0; sin = true };
 }
 
-unfoldable pub powerUp : Bridge
-powerUp = poweredUp powerUpControl
+-- in the layout that the event chooses (02 item 7)
+unfoldable pub powerUpIn : Layout → Bridge
+powerUpIn layout = poweredUp (powerUpControl layout)
+
+abbrev pub powerUp : Bridge
+powerUp = powerUpIn Ours
 
 -- "with bad OTP the same in INIT with that flag"
-unfoldable pub badControl : Control
-badControl = record {
+unfoldable pub badControl : Control → Control
+badControl c = record {
   mode = Init;
-  drdy = powerUpControl .drdy;
+  drdy = c .drdy;
   flags = record {
     otp = true;
-    por = powerUpControl .flags .por;
-    srst = false;
-    «reg_write» = false;
-    «spi_crc» = false;
-    «spi_cs» = false;
-    «queue_ovf» = false;
-    «check_bit» = false;
-    «line_crc» = false;
-    sin = false;
-    txffovf = false;
-    txffuvf = false;
-    rxffovf = false;
-    rxffuvf = false;
-    «bad_word» = powerUpControl .flags .«bad_word»;
+    por = c .flags .por;
+    srst = c .flags .srst;
+    «reg_write» = c .flags .«reg_write»;
+    «spi_crc» = c .flags .«spi_crc»;
+    «spi_cs» = c .flags .«spi_cs»;
+    «queue_ovf» = c .flags .«queue_ovf»;
+    «check_bit» = c .flags .«check_bit»;
+    «line_crc» = c .flags .«line_crc»;
+    sin = c .flags .sin;
+    txffovf = c .flags .txffovf;
+    txffuvf = c .flags .txffuvf;
+    rxffovf = c .flags .rxffovf;
+    rxffuvf = c .flags .rxffuvf;
+    «bad_word» = c .flags .«bad_word»;
   };
-  regs = powerUpControl .regs;
+  regs = c .regs;
 }
 
-unfoldable pub powerUpBad : Bridge
-powerUpBad = poweredUp badControl
+unfoldable pub powerUpBadIn : Layout → Bridge
+powerUpBadIn layout = poweredUp (badControl (powerUpControl layout))
+
+abbrev pub powerUpBad : Bridge
+powerUpBad = powerUpBadIn Ours

@@ -3,11 +3,12 @@ ghost use mathlib.Core.Path.{_≡_};
 ghost use lib.Dec.{ltb};
 ghost use Rattle.state.specs.Frame.{dataWords, isForward};
 ghost use Rattle.state.specs.Notes.{noteNumber};
-ghost use Rattle.state.specs.Power.{powerUp, powerUpBad};
+ghost use Rattle.state.specs.Power.{powerUp, powerUpBad, powerUpIn, powerUpBadIn};
 
 mod rings;
 
 use command::Command;
+use layout::Layout;
 use line::Ear;
 use line::Piece;
 use registers::Control;
@@ -112,10 +113,11 @@ pub struct Fwd {
     pub reads: bool,
 }
 
-// The phase, and the words that REG_WR_CRC holds until its CRC word.
+// The phase, the words that REG_WR_CRC holds until its CRC word, and whether the frame's CRC and its answer's are CRC-16/XMODEM (02 item 7).
 pub struct Frame {
     pub phase: Phase,
     pub held: [u16; 12],
+    pub xmodem: bool,
 }
 
 // The last clock reading, the watchdog's mark, the SIN watch with its mark, and the last SIN bit.
@@ -191,7 +193,7 @@ impl Place {
 }
 
 impl Bridge {
-    // With good OTP.
+    // With good OTP, in our layout.
     pub const POWER_UP: Bridge = Bridge {
         control: Control::POWER_UP,
         sending: Sending {
@@ -220,6 +222,7 @@ impl Bridge {
         frame: Frame {
             phase: Phase::Idle,
             held: [0; 12],
+            xmodem: false,
         },
         clock: Clock {
             reading: 0,
@@ -240,12 +243,29 @@ impl Bridge {
     pub fn bad() -> Bridge
         ensures { λ r. ⌜ r ≡ powerUpBad ⌝ }
     {
-        let mut flags = Control::POWER_UP.flags;
+        Bridge::bad_in(Layout::Ours)
+    }
+
+    // With good OTP, in the layout that power-up chooses (02 item 7).
+    pub fn good_in(layout: Layout) -> Bridge
+        ensures { λ r. ⌜ r ≡ powerUpIn layout ⌝ }
+    {
+        let control = registers::power_up_control(layout);
+        let mut b = Bridge::POWER_UP;
+        b.control = control;
+        b
+    }
+
+    pub fn bad_in(layout: Layout) -> Bridge
+        ensures { λ r. ⌜ r ≡ powerUpBadIn layout ⌝ }
+    {
+        let good = registers::power_up_control(layout);
+        let mut flags = good.flags;
         flags.otp = true;
-        let regs = Control::POWER_UP.regs;
+        let regs = good.regs;
         let control = Control {
             mode: Mode::Init,
-            drdy: true,
+            drdy: good.drdy,
             flags: flags,
             regs: regs,
         };

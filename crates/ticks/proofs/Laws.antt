@@ -90,7 +90,7 @@ pub to-ends : (b : Bridge) (s : Sent) (t : Taken) (sin : Bool) (control : Contro
         control = control;
         sending = record { tx = s .sending .tx; queue = t .queue; sender = s .sending .sender };
         receiving = t .receiving;
-        frame = record { phase = phase; held = b .frame .held };
+        frame = record { phase = phase; held = b .frame .held; xmodem = b .frame .xmodem };
         clock = clock;
       };
       sdo = noAnswer;

@@ -77,7 +77,7 @@ tickEnds b s t sin = record {
     control = controlTicked (b .control) t;
     sending = record { tx = s .sending .tx; queue = t .queue; sender = s .sending .sender };
     receiving = t .receiving;
-    frame = record { phase = phaseAfter (b .frame .phase) (s .starved); held = b .frame .held };
+    frame = record { phase = phaseAfter (b .frame .phase) (s .starved); held = b .frame .held; xmodem = b .frame .xmodem };
     clock = watched (b .clock) (s .started) sin;
   };
   sdo = noAnswer;

@@ -177,6 +177,7 @@ fn tick_ends(bridge: Bridge, sent: Sent, taken: Taken, sin: bool) -> Did
         frame: Frame {
             phase: phase,
             held: held,
+            xmodem: frame.xmodem,
         },
         clock: clock,
     };

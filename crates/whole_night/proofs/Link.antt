@@ -9,7 +9,7 @@ use lib.ListN.{length, getD, take, drop, length-append, take-append-drop}
 use lib.Seq.{sets-eq, drop-set-lt, take-at, length-take-le}
 use Rattle.base.specs.Pick.{pick, pick-true, pick-false, pick-denied, pick-lt, pick-not-lt, pick-eq, pick-ne}
 use Rattle.base.specs.Truth.{and-again, and-end}
-use Rattle.command.specs.Layouts.{ours}
+use Rattle.command.specs.Layouts.{layouts}
 use Rattle.state.specs.Notes.{noteNumber}
 use Rattle.state.specs.Rings.{txSize, rxSize}
 use Rattle.state.specs.declared.Bridge.{Bridge}
@@ -143,30 +143,30 @@ module _ (records : List ℕ) where
   abbrev pub Runs : ℕ → ℕ → Config → List ℕ → Type 0
   Runs left k c s =
       listOf records left k (c .bridge) (c .tx) (c .rx) s
-      ≡ leaves (endOf ours c (eventsFrom records left k)) (take (k * 4) s ++ bytesIn ours c (eventsFrom records left k) ++ drop ((k + left) * 4) s)
+      ≡ leaves (endOf layouts c (eventsFrom records left k)) (take (k * 4) s ++ bytesIn layouts c (eventsFrom records left k) ++ drop ((k + left) * 4) s)
 
   module _ (left k : ℕ) (c : Config) (s : List ℕ) (f : Fit (c .bridge) (c .tx) (c .rx)) (h : (k + suc left) * 4 ≤ length s) where
     abbrev here : Out
-    here = turn ours (c .bridge) (c .tx) (c .rx) (eventAt records k)
+    here = turn layouts (c .bridge) (c .tx) (c .rx) (eventAt records k)
 
     abbrev then : List Event
     then = eventsFrom records left (k + 1)
 
-    by-turn : outOf ours c (eventAt records k) ≡ here
+    by-turn : outOf layouts c (eventAt records k) ≡ here
     unfolding outOf
-    by-turn = step-turn ours (c .bridge) (c .tx) (c .rx) (eventAt records k) (f .ready .tx-length) (f .ready .rx-length) (f .ready .rules)
+    by-turn = step-turn layouts (c .bridge) (c .tx) (c .rx) (eventAt records k) (f .ready .tx-length) (f .ready .rx-length) (f .ready .rules)
 
     abbrev on : Out → Moment
-    on o = leaves (endOf ours (leftBy o) then) (take (k * 4) s ++ (bytesOf (o .answer) ++ bytesIn ours (leftBy o) then) ++ drop ((k + suc left) * 4) s)
+    on o = leaves (endOf layouts (leftBy o) then) (take (k * 4) s ++ (bytesOf (o .answer) ++ bytesIn layouts (leftBy o) then) ++ drop ((k + suc left) * 4) s)
 
     one-more : Runs left (k + 1) (leftBy here) (putAnswer s k (here .answer)) → Runs (suc left) k c s
     unfolding listOf eventsFrom endOf bytesIn next
     one-more ih =
         let a : Answer = here .answer in
         let z : (k + 1 + left) * 4 ≡ (k + suc left) * 4 = omega arith in
-        let bytes : List ℕ = bytesIn ours (leftBy here) then in
+        let bytes : List ℕ = bytesIn layouts (leftBy here) then in
         ih
-        ∙ ap (leaves (endOf ours (leftBy here) then))
+        ∙ ap (leaves (endOf layouts (leftBy here) then))
         (ap₂ (λ (x y : List ℕ). x ++ bytes ++ y) (put-front s k (noteNumber (a .note)) (a .sdo) (a .sout) (omega arith))
         (put-behind s k (noteNumber (a .note)) (a .sdo) (a .sout) (omega arith) ((k + 1 + left) * 4) (omega arith) ∙ ap (λ (n : ℕ). drop n s) z)
         ∙ ap (λ (x : List ℕ). x ++ drop ((k + suc left) * 4) s) (append-assoc (take (k * 4) s) (bytesOf a) bytes))
@@ -179,7 +179,7 @@ module _ (records : List ℕ) where
       ap (leaves c)
       (sym (take-append-drop (k * 4) s) ∙ ap₂ (λ (x : List ℕ) (n : ℕ). x ++ drop n s) (sym (append-nil (take (k * 4) s))) z)
   runs (suc left) k c s f h =
-      let o : Out = turn ours (c .bridge) (c .tx) (c .rx) (eventAt records k) in
+      let o : Out = turn layouts (c .bridge) (c .tx) (c .rx) (eventAt records k) in
       let l = put-length s k (noteNumber (o .answer .note)) (o .answer .sdo) (o .answer .sout) in
       one-more left k c s f h
       (runs left (k + 1) (leftBy o) (putAnswer s k (o .answer)) (turn-keeps (c .bridge) (c .tx) (c .rx) (eventAt records k) f) (omega (arith, l)))
@@ -187,38 +187,38 @@ module _ (records : List ℕ) where
   -- from the first event
   pub run-all : (many : ℕ) (b : Bridge) (tx rx s : List ℕ) → Fit b tx rx → many * 4 ≤ length s
       → listOf records many 0 b tx rx s
-      ≡ leaves (endOf ours (config b tx rx) (eventsFrom records many 0))
-      (bytesIn ours (config b tx rx) (eventsFrom records many 0) ++ drop (length (eventsFrom records many 0) * 4) s)
+      ≡ leaves (endOf layouts (config b tx rx) (eventsFrom records many 0))
+      (bytesIn layouts (config b tx rx) (eventsFrom records many 0) ++ drop (length (eventsFrom records many 0) * 4) s)
   run-all many b tx rx s f h =
       let l = how-many records many 0 in
       let c : Config = config b tx rx in
       let es : List Event = eventsFrom records many 0 in
       let z : (0 + many) * 4 ≡ length es * 4 = omega (arith, l) in
-      runs many 0 c s f (omega arith) ∙ ap (λ (n : ℕ). leaves (endOf ours c es) (bytesIn ours c es ++ drop n s)) z
+      runs many 0 c s f (omega arith) ∙ ap (λ (n : ℕ). leaves (endOf layouts c es) (bytesIn layouts c es ++ drop n s)) z
 
 -- The ways out of the call.
 module _ (records : List ℕ) (b : Bridge) (tx rx s : List ℕ) where
   -- 22: cut, or a record that is no event
   pub to-wrong-cut : (d : Listed) → d ≡ record { state = b; done = 0; outcome = NoEvent } → (length records % 3 ≡ 0 → ⊥)
-      → end d tx rx s ≡ night ours (config b tx rx) records s
+      → end d tx rx s ≡ night layouts (config b tx rx) records s
   unfolding judged
-  to-wrong-cut d e h = ap (λ (x : Listed). end x tx rx s) e ∙ ap (judged ours (config b tx rx) s) (sym (wrong-cut records h))
+  to-wrong-cut d e h = ap (λ (x : Listed). end x tx rx s) e ∙ ap (judged layouts (config b tx rx) s) (sym (wrong-cut records h))
 
   pub to-wrong-kind : (d : Listed) → d ≡ record { state = b; done = 0; outcome = NoEvent } → length records % 3 ≡ 0
-      → (q : Bool) → q ≡ allEvents records (length records / 3) → q ≡ false → end d tx rx s ≡ night ours (config b tx rx) records s
+      → (q : Bool) → q ≡ allEvents records (length records / 3) → q ≡ false → end d tx rx s ≡ night layouts (config b tx rx) records s
   unfolding judged
   to-wrong-kind d e h q i j =
-      ap (λ (x : Listed). end x tx rx s) e ∙ ap (judged ours (config b tx rx) s) (sym (wrong-kind records h (sym i ∙ j)))
+      ap (λ (x : Listed). end x tx rx s) e ∙ ap (judged layouts (config b tx rx) s) (sym (wrong-kind records h (sym i ∙ j)))
 
   pub to-tested : length records % 3 ≡ 0 → (q : Bool) → q ≡ allEvents records (length records / 3) → q ≡ true
-      → (x : End) → x ≡ tested ours (config b tx rx) s (eventsFrom records (length records / 3) 0) → x ≡ night ours (config b tx rx) records s
+      → (x : End) → x ≡ tested layouts (config b tx rx) s (eventsFrom records (length records / 3) 0) → x ≡ night layouts (config b tx rx) records s
   unfolding judged
-  to-tested h q i j x e = e ∙ ap (judged ours (config b tx rx) s) (sym (events-in records h (sym i ∙ j)))
+  to-tested h q i j x e = e ∙ ap (judged layouts (config b tx rx) s) (sym (events-in records h (sym i ∙ j)))
 
   module _ (many : ℕ) where
     -- 23
     pub to-short : length s / 4 < many → (d : Listed) → d ≡ record { state = b; done = 0; outcome = ShortResults }
-        → end d tx rx s ≡ tested ours (config b tx rx) s (eventsFrom records many 0)
+        → end d tx rx s ≡ tested layouts (config b tx rx) s (eventsFrom records many 0)
     unfolding tested
     to-short h d e =
         let l = how-many records many 0 in
@@ -231,12 +231,12 @@ module _ (records : List ℕ) (b : Bridge) (tx rx s : List ℕ) where
 
       -- note 1
       pub to-stores-tx : (length tx ≡ txSize → ⊥) → (d : Listed) → d ≡ record { state = b; done = 0; outcome = WrongStores }
-          → end d tx rx s ≡ tested ours (config b tx rx) s (eventsFrom records many 0)
+          → end d tx rx s ≡ tested layouts (config b tx rx) s (eventsFrom records many 0)
       unfolding tested
       to-stores-tx t d e = pick-not-lt _ _ _ _ _ room (pick-ne _ _ _ _ _ t (ap (λ (x : Listed). end x tx rx s) e))
 
       pub to-stores-rx : length tx ≡ txSize → (length rx ≡ rxSize → ⊥) → (d : Listed) → d ≡ record { state = b; done = 0; outcome = WrongStores }
-          → end d tx rx s ≡ tested ours (config b tx rx) s (eventsFrom records many 0)
+          → end d tx rx s ≡ tested layouts (config b tx rx) s (eventsFrom records many 0)
       unfolding tested
       to-stores-rx t r d e =
           pick-not-lt _ _ _ _ _ room (pick-eq _ _ _ _ _ t (pick-ne _ _ _ _ _ r (ap (λ (x : Listed). end x tx rx s) e)))
@@ -244,25 +244,20 @@ module _ (records : List ℕ) (b : Bridge) (tx rx s : List ℕ) where
       -- note 2
       pub to-broken : length tx ≡ txSize → length rx ≡ rxSize → (q : Bool) → q ≡ sound b → q ≡ false
           → (d : Listed) → d ≡ record { state = b; done = 0; outcome = BrokenRecord }
-          → end d tx rx s ≡ tested ours (config b tx rx) s (eventsFrom records many 0)
+          → end d tx rx s ≡ tested layouts (config b tx rx) s (eventsFrom records many 0)
       unfolding tested
       to-broken t r q i j d e =
           pick-not-lt _ _ _ _ _ room
           (pick-eq _ _ _ _ _ t (pick-eq _ _ _ _ _ r (pick-denied q _ _ _ _ i j (ap (λ (x : Listed). end x tx rx s) e))))
 
-      -- all of it
-      pub to-done : Fit b tx rx → (m : Moment) → m ≡ listOf records many 0 b tx rx s
-          → end (record { state = m .bridge; done = many; outcome = Done }) (m .tx) (m .rx) (m .results)
-          ≡ tested ours (config b tx rx) s (eventsFrom records many 0)
-      unfolding tested
-      to-done f m e =
-          pick-not-lt _ _ _ _ _ room
-          (pick-eq _ _ _ _ _ (f .ready .tx-length) (pick-eq _ _ _ _ _ (f .ready .rx-length) (pick-true _ _ _ _ (f .ready .rules)
-          (ap₂ (λ (x : Moment) (n : ℕ). end (record { state = x .bridge; done = n; outcome = Done }) (x .tx) (x .rx) (x .results))
-          (e ∙ run-all records many b tx rx s f (omega arith)) (sym (how-many records many 0))))))
-
-      -- the same, by what a function answered
-      pub to-done-by : Fit b tx rx → (x : Bridge) (t r u : List ℕ) → moment x t r u ≡ listOf records many 0 b tx rx s
+      -- all of it, by what a function answered
+      pub to-done : Fit b tx rx → (x : Bridge) (t r u : List ℕ) → moment x t r u ≡ listOf records many 0 b tx rx s
           → (d : Listed) → d ≡ record { state = x; done = many; outcome = Done }
-          → end d t r u ≡ tested ours (config b tx rx) s (eventsFrom records many 0)
-      to-done-by f x t r u e d i = ap (λ (y : Listed). end y t r u) i ∙ to-done f (moment x t r u) e
+          → end d t r u ≡ tested layouts (config b tx rx) s (eventsFrom records many 0)
+      unfolding tested
+      to-done f x t r u e d i =
+          ap (λ (y : Listed). end y t r u) i
+          ∙ pick-not-lt _ _ _ _ _ room
+          (pick-eq _ _ _ _ _ (f .ready .tx-length) (pick-eq _ _ _ _ _ (f .ready .rx-length) (pick-true _ _ _ _ (f .ready .rules)
+          (ap₂ (λ (m : Moment) (n : ℕ). end (record { state = m .bridge; done = n; outcome = Done }) (m .tx) (m .rx) (m .results))
+          (e ∙ run-all records many b tx rx s f (omega arith)) (sym (how-many records many 0))))))

@@ -5,11 +5,10 @@ use Prim.Native.Nat.{ℕ, _*_}
 use lib.Dec.{ltb, eqb}
 use lib.ListN.{length, drop}
 use Rattle.base.specs.Pick.{pick}
-use Rattle.command.specs.Layouts.{Layout}
+use Rattle.command.specs.Layouts.{Layouts}
 use Rattle.state.specs.Notes.{noteNumber}
 use Rattle.state.specs.Rings.{txSize, rxSize}
 use Rattle.rules.specs.Sound.{sound}
-use Rattle.events.specs.declared.Answer.{Answer}
 use Rattle.events.specs.declared.Event.{Event}
 use Rattle.bridge.specs.Runs.{Config, outOf, next, endOf}
 use Rattle.script.specs.Script.{valueOf, recordOf}
@@ -38,7 +37,7 @@ eventsIn (kind ∷ high ∷ []) = wrong
 eventsIn (kind ∷ high ∷ low ∷ rest) = before (recordOf kind (valueOf high low)) (eventsIn rest)
 
 -- "four bytes for each": of a run, in which each event is `step` of what the one before left (demand 3)
-unfoldable pub bytesIn : Layout → Config → List Event → List ℕ
+unfoldable pub bytesIn : Layouts → Config → List Event → List ℕ
 bytesIn l c [] = []
 bytesIn l c (e ∷ es) =
     fourBytes (noteNumber (outOf l c e .answer .note)) (outOf l c e .answer .sdo) (outOf l c e .answer .sout) ++ bytesIn l (next l c e) es
@@ -58,13 +57,13 @@ abbrev pub refused : Config → List ℕ → Outcome → End
 refused c s o = end (record { state = c .bridge; done = 0; outcome = o }) (c .tx) (c .rx) s
 
 -- "no other note stops the list"; the cells beyond its results are as lent
-abbrev pub allDone : Layout → Config → List Event → List ℕ → End
+abbrev pub allDone : Layouts → Config → List Event → List ℕ → End
 allDone l c es s =
     end (record { state = endOf l c es .bridge; done = length es; outcome = Done }) (endOf l c es .tx) (endOf l c es .rx)
     (bytesIn l c es ++ drop (length es * 4) s)
 
 -- 23 before notes 1 and 2
-unfoldable pub tested : Layout → Config → List ℕ → List Event → End
+unfoldable pub tested : Layouts → Config → List ℕ → List Event → End
 tested l c s es =
     pick (ltb (length s) (length es * 4)) (refused c s ShortResults)
     (pick (eqb (length (c .tx)) txSize)
@@ -74,9 +73,9 @@ tested l c s es =
     (refused c s WrongStores))
 
 -- 22 first, over the entire list
-unfoldable pub judged : Layout → Config → List ℕ → Told → End
+unfoldable pub judged : Layouts → Config → List ℕ → Told → End
 judged l c s (events es) = tested l c s es
 judged l c s wrong = refused c s NoEvent
 
-abbrev pub night : Layout → Config → List ℕ → List ℕ → End
+abbrev pub night : Layouts → Config → List ℕ → List ℕ → End
 night l c records s = judged l c s (eventsIn records)

@@ -4,7 +4,7 @@ ghost use mathlib.Core.Path.{_≡_};
 ghost use mathlib.Core.Bool.{true};
 ghost use Prim.Native.Nat.{_*_, _≤_};
 ghost use lib.ListN.{length};
-ghost use Rattle.command.specs.Layouts.{ours};
+ghost use Rattle.command.specs.Layouts.{layouts};
 ghost use Rattle.bridge.specs.Fit.{Fit};
 ghost use Rattle.listing.specs.Records.{allEvents};
 ghost use Rattle.listing.specs.Run.{moment, listOf, Listable};
@@ -85,7 +85,7 @@ fn tested(
     results: &mut [u8],
 ) -> Listed
     requires { ⌜ (allEvents (now records) many ≡ true) × (many * 3 ≤ length (now records)) ⌝ }
-    ensures { λ r. ⌜ end r (now (tx .exit)) (now (rx .exit)) (now (results .exit)) ≡ testedOf ours (config bridge (now (tx .entry)) (now (rx .entry))) (now (results .entry)) (eventsFrom (now (records .entry)) many 0) ⌝ }
+    ensures { λ r. ⌜ end r (now (tx .exit)) (now (rx .exit)) (now (results .exit)) ≡ testedOf layouts (config bridge (now (tx .entry)) (now (rx .entry))) (now (results .entry)) (eventsFrom (now (records .entry)) many 0) ⌝ }
 {
     if results.len() / 4 < many {
         return refused(bridge, Outcome::ShortResults);
@@ -115,7 +115,7 @@ pub fn night(
     records: &[u8],
     results: &mut [u8],
 ) -> Listed
-    ensures { λ r. ⌜ end r (now (tx .exit)) (now (rx .exit)) (now (results .exit)) ≡ nightOf ours (config bridge (now (tx .entry)) (now (rx .entry))) (now (records .entry)) (now (results .entry)) ⌝ }
+    ensures { λ r. ⌜ end r (now (tx .exit)) (now (rx .exit)) (now (results .exit)) ≡ nightOf layouts (config bridge (now (tx .entry)) (now (rx .entry))) (now (records .entry)) (now (results .entry)) ⌝ }
 {
     let many = records.len() / 3;
     if records.len() % 3 != 0 {

@@ -4,16 +4,14 @@ use mathlib.Core.Bool.{Bool, true, false, _&&_}
 use Prim.Native.Nat.{ℕ, suc, _-_, _≤_}
 use native.Mathlib.Omega.{arith}
 use native.Mathlib.Decide.{decLe}
-use lib.ListN.{List·getD-eq-default}
 use Rattle.base.specs.Arms.{past}
 use Rattle.base.specs.Bits.{bit, flag}
 use Rattle.base.specs.Pick.{pick, pick-true, pick-false, pick-told}
-use Rattle.registers.specs.declared.Register.{Register}
 use Rattle.registers.specs.declared.Control.{Control}
 use Rattle.registers.specs.declared.Flags.{Flags}
 use Rattle.registers.specs.declared.Written.{Written}
 use Rattle.registers.specs.declared.Effect.the-variants.{Nothing}
-use Rattle.registers.specs.Registers.{table, rowOf, row, cleared}
+use Rattle.registers.specs.Registers.{cleared}
 use Rattle.registers.specs.Writing.{written, withFlags, writeStatus, writeMasked}
 
 -- a choice by two answers
@@ -28,11 +26,6 @@ pub to-cleared : (c : Control) (v : ℕ) (b : Bool) (f : Flags) (x : Written) �
     → x ≡ written (withFlags c f) Nothing → x ≡ writeStatus c v
 unfolding writeStatus
 to-cleared c v b f x e h k l = pick-told b _ x _ _ e h (l ∙ ap (λ (g : Flags). written (withFlags c g) Nothing) k)
-
--- there is no row above 11
-pub no-row : (a : ℕ) → 12 ≤ a → 0 ≡ rowOf a .writable
-unfolding table
-no-row a h = ap (λ (r : Register). r .writable) (sym (List·getD-eq-default table (row 0 0) h))
 
 none : {n : ℕ} → (1 ≤ n → ⊥) → n ≡ 0
 none h = omega arith

@@ -2,7 +2,6 @@
 use registers::Control;
 use registers::Effect;
 use registers::Mode;
-use registers::TABLE;
 use registers::Written;
 use registers::bit;
 use registers::cleared_flags;
@@ -11,18 +10,7 @@ use registers::is_normal;
 ghost use mathlib.Core.Path.{_≡_};
 ghost use Rattle.base.specs.Bits.{bit as bitOf};
 ghost use Rattle.base.specs.Pick.{pick};
-ghost use Rattle.registers.specs.Registers.{rowOf};
 ghost use Rattle.registers.specs.Writing.{written, withRegs, withSpictrl, withDiagmask, withMode, writeCcsictrl, writeTxfflvl, writeRxfflvl, modeAfter, writeStatus, writeMasked, writeOf};
-
-// The bits of an address that a write reaches; none where there is no register.
-fn writable(address: u16) -> u16
-    ensures { λ r. ⌜ r ≡ rowOf address .writable ⌝ }
-{
-    if address < 12 {
-        return TABLE[address as usize].writable;
-    }
-    0
-}
 
 fn plain(control: Control) -> Written
     ensures { λ r. ⌜ r ≡ written control Effect.Nothing ⌝ }
@@ -162,6 +150,8 @@ fn write_masked(control: Control, busy: bool, address: u16, value: u16) -> Writt
 pub fn write(control: Control, busy: bool, address: u16, value: u16) -> Written
     ensures { λ r. ⌜ r ≡ writeOf control busy address value ⌝ }
 {
-    let reached = value & writable(address);
+    let regs = control.regs;
+    let layout = regs.layout;
+    let reached = value & registers::row(layout, address).writable;
     write_masked(control, busy, address, reached)
 }

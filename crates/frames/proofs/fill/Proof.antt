@@ -7,10 +7,10 @@ use Rattle.frames.proofs.fill.Statement.{statement}
 use Rattle.frames.proofs.fill.Tie as tie
 
 abbrev Inv-loop : tie.InvT-loop
-Inv-loop word words buffer₀ crc₀ i₀ buffer crc i = Filled word words buffer₀ i buffer crc
+Inv-loop start word words buffer₀ crc₀ i₀ buffer crc i = Filled start word words buffer₀ i buffer crc
 
 abbrev μ-loop : tie.MeasureT-loop
-μ-loop word words buffer₀ crc₀ i₀ buffer crc i = length words - i
+μ-loop start word words buffer₀ crc₀ i₀ buffer crc i = length words - i
 
 pub fill-spec : {M : Type 1} → statement M
 fill-spec =

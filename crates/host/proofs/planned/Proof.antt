@@ -9,8 +9,9 @@ pub planned-spec : {M : Type 1} → statement M
 unfolding plannedIn
 planned-spec =
     tie.close
-    (tie.spec
-    (λ c. search needs)
+    (tie.spec (λ c. search needs)
+    (λ c κs. search needs)
+    (λ c κs. search needs)
     (λ c κs. search needs)
     (λ c κs. search needs)
     (λ c κs. search needs)

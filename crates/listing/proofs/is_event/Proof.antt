@@ -4,7 +4,4 @@ use Rattle.listing.proofs.is_event.Statement.{statement}
 use Rattle.listing.proofs.is_event.Tie as tie
 
 pub is-event-spec : {M : Type 1} → statement M
-is-event-spec =
-    tie.close
-    (tie.spec (λ c. search needs) (λ c. search needs) (λ c. search needs) (λ c. search needs) (λ c. search needs) (λ c. search needs)
-    (λ c κs. search needs) (λ c κs. search needs) (λ c κs. search needs) (λ c. cc))
+is-event-spec = tie.close (tie.spec (λ c κs. search needs) (λ c κs. search needs) (λ c. cc))

@@ -1,14 +1,13 @@
 use borrow.Author.Needs.{needs}
-use Rattle.registers.specs.Registers.{statusOf}
+use Rattle.reading.proofs.Laws.{to-status}
 use Rattle.reading.proofs.status.Statement.{statement}
 use Rattle.reading.proofs.status.Tie as tie
 
 pub status-spec : {M : Type 1} → statement M
-unfolding statusOf
 status-spec =
     tie.close
     (tie.spec (λ c κs. search needs) (λ c κs. search needs) (λ c κs. search needs) (λ c κs. search needs) (λ c κs. search needs)
     (λ c κs. search needs) (λ c κs. search needs) (λ c κs. search needs) (λ c κs. search needs) (λ c. search needs)
     (λ c κs. search needs) (λ c κs. search needs) (λ c κs. search needs) (λ c κs. search needs) (λ c. search needs) (λ c. search needs)
     (λ c. search needs) (λ c. search needs) (λ c. search needs) (λ c. search needs) (λ c. search needs) (λ c. search needs)
-    (λ c. search needs) (λ c. search needs) (λ c. search needs) (λ c. cc))
+    (λ c. search needs) (λ c. search needs) (λ c. search needs) (λ c. search (needs, to-status)))

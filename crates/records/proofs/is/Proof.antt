@@ -5,10 +5,10 @@ use Rattle.records.proofs.is.Statement.{statement}
 use Rattle.records.proofs.is.Tie as tie
 
 abbrev Inv-loop : tie.InvT-loop
-Inv-loop f own same₀ i₀ same i = i ≤ 140
+Inv-loop f own same₀ i₀ same i = i ≤ 142
 
 abbrev μ-loop : tie.MeasureT-loop
-μ-loop f own same₀ i₀ same i = 140 - i
+μ-loop f own same₀ i₀ same i = 142 - i
 
 pub is-spec : {M : Type 1} → statement M
 is-spec =

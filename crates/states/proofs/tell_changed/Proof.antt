@@ -5,10 +5,10 @@ use Rattle.states.proofs.tell_changed.Statement.{statement}
 use Rattle.states.proofs.tell_changed.Tie as tie
 
 abbrev Inv-loop : tie.InvT-loop
-Inv-loop before after i₀ i = i ≤ 142
+Inv-loop before after i₀ i = i ≤ 144
 
 abbrev μ-loop : tie.MeasureT-loop
-μ-loop before after i₀ i = 142 - i
+μ-loop before after i₀ i = 144 - i
 
 pub tell-changed-spec : {M : Type 1} → statement M
 tell-changed-spec =

@@ -2,7 +2,7 @@
 use borrow.Author.Needs.{needs}
 use mathlib.Core.Path.{_≡_}
 use lib.ListN.{length, length-map}
-use Rattle.whole_night.proofs.Link.{to-short, to-stores-tx, to-stores-rx, to-broken, to-done-by}
+use Rattle.whole_night.proofs.Link.{to-short, to-stores-tx, to-stores-rx, to-broken, to-done}
 use Rattle.whole_night.proofs.Fits.{is-fit, is-listable}
 use Rattle.whole_night.proofs.tested.Statement.{statement}
 use Rattle.whole_night.proofs.tested.Tie as tie
@@ -18,5 +18,5 @@ tested-spec =
     (λ c κs. search needs) (λ c. search (needs, to-stores-rx)) (λ c κs. search needs)
     (λ c κs. let l = eight (c .before .before .before .before .before .before .before .before .before .before .before .before) in search (needs, is-fit, is-listable))
     (λ c. search needs) (λ c. search needs) (λ c. search needs)
-    (λ c. let l = eight (c .before .before .before .before .before .before .before .before .before .before .before .before .before .before .before .before .before .before .before) in search (needs, to-done-by, is-fit))
+    (λ c. let l = eight (c .before .before .before .before .before .before .before .before .before .before .before .before .before .before .before .before .before .before .before) in search (needs, to-done, is-fit))
     (λ c κs. search needs) (λ c. search (needs, to-broken)))

@@ -2,8 +2,7 @@
 use borrow.Author.Needs.{needs}
 use Prim.Native.Nat.{_-_}
 use Rattle.listing.specs.Run.{Gone}
-use Rattle.listing.proofs.Laws.{begins, host-now}
-use Rattle.pouring.proofs.Laws.{ahead}
+use Rattle.listing.proofs.Laws.{begins, host-now, ahead}
 use Rattle.night_parts.proofs.Single.{to-last, to-other, record-now, tx-same, rx-same}
 use Rattle.night_parts.proofs.Hushed.{hushed, unhushed-room, unhushed-tick}
 use Rattle.night_parts.proofs.ticking.ticks.Statement.{statement}

@@ -1,11 +1,13 @@
 -- `Bridge::good` is the named value, with every register at its row's reset.
-use Rattle.registers.specs.Registers.{table, resetRegs, powerUpFlags, powerUpControl}
-use Rattle.state.specs.Queue.{noPlace}
-use Rattle.state.specs.Power.{powerUp}
 use mathlib.Core.Path.{refl}
+use Rattle.registers.specs.Registers.{tableOf, resetRegs, powerUpFlags, powerUpControl}
+use Rattle.state.specs.Queue.{noPlace}
+use Rattle.state.specs.Power.{powerUpIn}
 use Rattle.state.proofs.Bridge.good.Statement.{statement}
 use Rattle.state.proofs.Bridge.good.Tie as tie
 
 pub good-spec : {M : Type 1} → statement M
-unfolding powerUp powerUpControl powerUpFlags resetRegs table noPlace
-good-spec = tie.close (tie.spec (λ c. refl))
+unfolding powerUpIn powerUpControl powerUpFlags resetRegs tableOf noPlace
+good-spec =
+    tie.close
+    (tie.spec (λ c. refl))

@@ -1,14 +1,14 @@
--- `main` is safe and ends: `word` stays a word, and the measure is what is left of the words. Assumes nothing.
+-- `walk` is safe and ends: `word` stays a word, and the measure is what is left of the words. Assumes nothing.
 use Prim.Native.Nat.{_-_, _≤_}
 use borrow.Author.Needs.{needs}
-use Rattle.command_main.proofs.main.Statement.{statement}
-use Rattle.command_main.proofs.main.Tie as tie
+use Rattle.command_main.proofs.walk.Statement.{statement}
+use Rattle.command_main.proofs.walk.Tie as tie
 
 abbrev Inv-loop : tie.InvT-loop
-Inv-loop counts₀ digest₀ word₀ counts digest word = word ≤ 65535
+Inv-loop layout counts₀ digest₀ word₀ counts digest word = word ≤ 65535
 
 abbrev μ-loop : tie.MeasureT-loop
-μ-loop counts₀ digest₀ word₀ counts digest word = 65535 - word
+μ-loop layout counts₀ digest₀ word₀ counts digest word = 65535 - word
 
 loop-holds : tie.Need-loop-holds Inv-loop μ-loop
 loop-holds c = search needs
@@ -55,8 +55,8 @@ print-counts-requires c κs = search needs
 returns : tie.Need-returns Inv-loop μ-loop
 returns c = search needs
 
-pub main-spec : {M : Type 1} → statement M
-main-spec =
+pub walk-spec : {M : Type 1} → statement M
+walk-spec =
     tie.close
     (tie.spec Inv-loop μ-loop loop-holds decode-requires place-requires mul-wrapping-add-u32 array-read-wrapping-add-u32
     wrapping-add-u32-requires mul-counts array-write-counts mix-command-requires close-number-requires add-word loop-less loop-again
