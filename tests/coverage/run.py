@@ -139,9 +139,9 @@ def alike(name, printed, wanted):
 
 
 def held(bench, counts, printed):
-    """Holds the counters of one run to what it printed: events of each kind, looked at by the bench and by its list, and SOUT bits."""
+    """Holds the counters of one run to what it printed: events of each kind, looked at by the bench and by its list, a power-up once more to be made, and SOUT bits."""
     lines = [line.split() for line in printed.decode().splitlines()]
-    known = {("script::read", i): 2 * sum(line[0] == str(i) for line in lines) for i in range(5)}
+    known = {("script::read", i): (2 if i else 3) * sum(line[0] == str(i) for line in lines) for i in range(5)}
     known.update((("script::sign", i), sum(line[4] == str(1 - i) for line in lines)) for i in range(2))
     for (name, i), many in known.items():
         found = counts[name, bench.tests[name][0][0][i]]
