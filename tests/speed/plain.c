@@ -198,6 +198,13 @@ static long youngest_takes(const struct bridge *b, long sending_now)
     return places > 0 && !b->place[places - 1].begun ? (long)b->place[places - 1].words : sending_now;
 }
 
+/* A frame's CRC starts as one of its layout's does: ours has one, the maker's two (02 item 7). */
+static bool start_holds(const struct bridge *b)
+{
+    const struct frame *f = &b->frame;
+    return (f->phase != COLLECT && f->phase != ANSWER) || f->start == CRC_START || (b->makers && f->start == XMODEM_START);
+}
+
 /* Every word of TX has a command that will take it, and only the youngest can starve. An open forward is marked as
    blocked while a blocking flag is up. */
 static bool ledger_holds(const struct bridge *b, long waiting)
@@ -220,7 +227,7 @@ static bool rules_hold(const struct bridge *b)
     long waiting;
     return ring_holds(&b->tx, TX_SIZE) && ring_holds(&b->rx, RX_SIZE) && registers_hold(b)
         && places_hold(b, &begun, &waiting) && sender_holds(b, begun) && reader_holds(b, begun)
-        && frame_holds(&b->frame) && ledger_holds(b, waiting);
+        && frame_holds(&b->frame) && start_holds(b) && ledger_holds(b, waiting);
 }
 
 /* One event as the bridge's `step` does it: the record rules first. */
