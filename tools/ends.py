@@ -10,6 +10,18 @@ def put(data):
         rest = rest[sys.stdout.buffer.write(rest) or 0:]
 
 
+def written(data, out, what):
+    """Writes bytes to the file `out`, or to standard output where it is None."""
+    if out is None:
+        put(data)
+        return
+    try:
+        with open(out, "wb") as file:
+            file.write(data)
+    except OSError as error:
+        sys.exit("%s: the %s cannot be written: %s" % (out, what, error.strerror))
+
+
 def ended(tool, main):
     """Runs a tool's `main`. A reader of the output that has gone, a full disk, a closed output and an interrupt end it in their own way."""
     if sys.stdout is None:

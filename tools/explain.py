@@ -449,7 +449,7 @@ class Event:
     """A line of the bench."""
 
     def __init__(self, parts):
-        self.kind, self.value, self.note, self.sdo = int(parts[0]), int(parts[1], 16), int(parts[2]), int(parts[3], 16)
+        self.kind, self.value, self.note, self.sdo, self.sout = int(parts[0]), int(parts[1], 16), int(parts[2]), int(parts[3], 16), int(parts[4])
 
 
 def words(event, before, after):
@@ -459,8 +459,15 @@ def words(event, before, after):
     return "; ".join(own + note + ([] if event.kind == POWER else list(beside(event, before, after))))
 
 
-def told(lines):
-    """Each of the bench's lines with its words beside it; a line that is no event stays as it is."""
+class Step:
+    """An event of a run: its words, and the state before and after it."""
+
+    def __init__(self, event, said, before, after):
+        self.event, self.said, self.before, self.after = event, said, before, after
+
+
+def steps(lines):
+    """Each line without its columns, and its step; None for a line that is no event."""
     if not COLUMNS:
         raise NotTold("the names of the state's columns are not there: %s" % TABLE)
     state = {**dict.fromkeys(COLUMNS, 0), CUT: False}
@@ -470,14 +477,20 @@ def told(lines):
             if parts[:1] == ["start"]:
                 state = changed(state, parts[1:])
             elif len(parts) < 5:
-                yield line.rstrip("\n")
+                yield line.rstrip("\n"), None
             else:
                 event, after = Event(parts), changed(state, parts[5:])
-                yield "%-16s  %s" % (" ".join(parts[:5]), words(event, state, after))
+                yield " ".join(parts[:5]), Step(event, words(event, state, after), state, after)
                 after[CUT] = (event.note == 13 or state[CUT]) and under_way(after) is not None
                 state = after
         except (ValueError, IndexError, KeyError) as error:
             raise NotTold("line %d is not what `states` prints: %s" % (number, line.strip())) from error
+
+
+def told(lines):
+    """Each of the bench's lines with its words beside it; a line that is no event stays as it is."""
+    for line, step in steps(lines):
+        yield line if step is None else "%-16s  %s" % (line, step.said)
 
 
 def main():

@@ -165,15 +165,20 @@ def source(name):
     return "standard input" if name == "-" else name
 
 
-def script(name, text):
-    made, layout = [HEAD], OURS
+def by_line(name, text):
+    """Number and records of each line."""
+    layout = OURS
     for number, line in enumerate(re.split("\r\n|\n|\r", text), 1):
         try:
-            made.append(events(line, layout))
-            layout = layout_after(made[-1], layout)
+            made = events(line, layout)
         except Refused as refused:
             raise Refused("%s:%d: %s" % (source(name), number, refused)) from None
-    return b"".join(made)
+        layout = layout_after(made, layout)
+        yield number, made
+
+
+def script(name, text):
+    return HEAD + b"".join(made for _, made in by_line(name, text))
 
 
 def is_wide(data):

@@ -1,7 +1,9 @@
 """The proved libraries for C, and programs that are linked with them (tests/linked).
 
-ICELICHEN_ARCHIVES in the environment names a folder with both archives, for a library that was made elsewhere; then nothing is proved.
+ICELICHEN_ARCHIVES in the environment names a folder with both archives; then nothing is proved. The gate has made them when these tests come, and `rt` would
+prove the libraries themselves anew for each test.
 """
+import functools
 import os
 import pathlib
 import platform
@@ -29,6 +31,7 @@ def missing(*tools):
     return next((f"there is no {tool}" for tool in tools if not shutil.which(tool)), None)
 
 
+@functools.cache
 def made(name):
     """A library's archive; `rt` proves what is not proved yet."""
     folder = os.environ.get("ICELICHEN_ARCHIVES")
