@@ -74,6 +74,18 @@ def check_state(work):
     print(f"sizes: a bridge has {STATE} bytes, its stores {TX:,} and {RX}")
 
 
+def check_dropped(work):
+    """What a program links of the bridge that gives single events alone, where the linker drops what nobody calls."""
+    given = work / "linked.map"
+    compiled(work / "shortest", C, *PLAIN, ROOT / "examples/firmware/shortest.c", made(BRIDGE), made(FRAMES), "-Wl,--gc-sections", f"-Wl,-Map={given}")
+    kept = re.findall(r"^ (\.\S+)\s+0x0*[1-9a-f][0-9a-f]*\s+0x([0-9a-f]+)\s\S*lib%s\.a\(" % BRIDGE, given.read_text(), re.M)
+    found = {kind: sum(int(size, 16) for name, size in kept if re.match(pattern, name)) for kind, pattern in KINDS.items()}
+    whole = bytes_of(made(BRIDGE))
+    if not 0 < found["code"] < whole["code"]:
+        raise Wrong(f"of {whole['code']} bytes of code {found['code']} are linked where events and power-up alone are called")
+    print(f"sizes: events and power-up alone: {found['code']:,} bytes of code, {found['constants']:,} of constants (--gc-sections)")
+
+
 def frames(archive):
     """Of each function the bytes that its own code takes of the stack, its return address too, those of them below its stack pointer, and the functions
     that it calls or goes on to."""
@@ -123,8 +135,8 @@ def test():
     for library in (BRIDGE, FRAMES):
         check_archive(library)
     with tempfile.TemporaryDirectory() as folder:
-        check_state(pathlib.Path(folder))
-        check_stack(pathlib.Path(folder))
+        for check in (check_state, check_dropped, check_stack):
+            check(pathlib.Path(folder))
 
 
 if __name__ == "__main__":

@@ -18,7 +18,8 @@ import subprocess
 import sys
 import tempfile
 
-from measure import ARCHIVE, HEAD, HERE, asked_for_help, check_machine, compiled, workloads
+sys.dont_write_bytecode = True
+from measure import ARCHIVE, HEAD, HERE, asked_for_help, check_machine, compiled, workloads  # noqa: E402
 
 EVENT, LENT, CELLS, RULES = "icelichen_event", "cells::lent", "cells::cells_of", "rules::sound"
 PARTS = {"read": LENT, "again": (LENT, CELLS), "rules": (EVENT, RULES), "written": (EVENT, CELLS)}
