@@ -11,7 +11,7 @@
 3. examples/c/call_up.c prints what examples/c/call_up.out says, and its frames are those of tools/frames.py.
 4. The large table of the CRC (crates/crc16_wide) is not in the library: no eight of its entries stand there in a row (02 item 5).
 
-The library is proved first: about a minute. On another machine than x86-64, and without gcc, this says so and tries nothing.
+The library is proved first, about a minute, unless ICELICHEN_ARCHIVES names a folder that has it. On another machine than x86-64, and without gcc, this says so and tries nothing.
 """
 import concurrent.futures
 import os
@@ -35,7 +35,8 @@ sys.path.append(str(TESTS))
 from command import decode  # noqa: E402
 from pair import built_model  # noqa: E402
 
-LIBRARY = ROOT / "target/staticlib/libicelichen_frames.a"
+ARCHIVES = os.environ.get("ICELICHEN_ARCHIVES")  # as in model/archives.py: made already
+LIBRARY = pathlib.Path(ARCHIVES or ROOT / "target/staticlib") / "libicelichen_frames.a"
 MOST_EVENTS = 500_000  # of a script
 LAYOUTS = {"0": "our layout", "1": "the maker's", "2": "the maker's with CRC-16/XMODEM"}  # by the header's numbers
 STRICT = ["-std=c11", "-Wall", "-Wextra", "-Werror", "-O2", f"-I{ROOT / 'include'}"]
@@ -43,7 +44,9 @@ SANITIZED = ["-fsanitize=address,undefined", "-fno-sanitize-recover=all"]
 
 
 def library():
-    """Proves the library and makes its archive."""
+    """Proves the library and makes its archive, where that is not done."""
+    if ARCHIVES:
+        return
     print("c_library: proving the library for C ..", flush=True)
     ran = subprocess.run(["rt", "staticlib", "icelichen_frames"], cwd=ROOT, capture_output=True, text=True)
     if ran.returncode or not LIBRARY.exists():

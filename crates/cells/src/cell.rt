@@ -1,6 +1,4 @@
 // Each cell of a record, by what it holds. Cells of four plain numbers are made where they stand.
-use line::Ear;
-use parts::Parts;
 use registers::Control;
 use registers::Flags;
 use registers::Regs;
@@ -11,7 +9,7 @@ use state::Reader;
 use state::Sender;
 ghost use Rattle.parts.specs.Numbers.{Four};
 ghost use Rattle.parts.specs.Variants.{modeNumber, layoutNumber, pieceParts, earParts, phaseParts, openParts};
-ghost use Rattle.cells.specs.Cells.{mark, stateMarks, hostMarks, storeMarks, lineMarks, frameMarks, placeMarks, heldAt};
+ghost use Rattle.cells.specs.Cells.{mark, stateMarks, hostMarks, storeMarks, lineMarks, frameMarks, placeMarks};
 ghost use mathlib.Core.Path.{_≡_};
 
 const MARK: u16 = 0x1CE1;

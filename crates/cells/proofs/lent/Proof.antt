@@ -5,4 +5,7 @@ use Rattle.cells.proofs.lent.Statement.{statement}
 use Rattle.cells.proofs.lent.Tie as tie
 
 pub lent-spec : {M : Type 1} → statement M
-lent-spec = tie.close (tie.spec (λ c κs. search needs) (λ c κs. search needs) (λ c κs. search needs) (λ c. search (needs, to-lent)) (λ c κs. search needs) (λ c. search (needs, to-refused)))
+lent-spec =
+    tie.close
+    (tie.spec (λ c κs. search needs) (λ c κs. search needs) (λ c κs. search needs) (λ c. search (needs, to-lent)) (λ c κs. search needs)
+    (λ c. search (needs, to-refused)))

@@ -9,7 +9,10 @@ use Rattle.icelichen_bridge.proofs.icelichen_events.Statement.{statemen
 use Rattle.icelichen_bridge.proofs.icelichen_events.Tie as tie
 
 pub icelichen-events-spec : {M : Type 1} → statement M
-icelichen-events-spec = tie.close (tie.spec (λ c κs. search needs) (λ c κs. search needs) (λ c κs. search needs) (λ c κs. search needs) (λ c κs. search needs) (λ c. search needs) (λ c. search needs) (λ c. search needs) (λ c.
+icelichen-events-spec =
+    tie.close
+    (tie.spec (λ c κs. search needs) (λ c κs. search needs) (λ c κs. search needs) (λ c κs. search needs) (λ c κs. search needs) (λ c. search needs)
+    (λ c. search needs) (λ c. search needs) (λ c.
     let code = c .list-code .ensures in
     let laid = c .before .lay .ensures in
     let number = c .before .before .number .ensures in

@@ -7,4 +7,7 @@ use Rattle.icelichen_bridge.proofs.is_answering.Tie as tie
 
 pub is-answering-spec : {M : Type 1} → statement M
 unfolding isAnswering
-is-answering-spec = tie.close (tie.spec (λ c. search needs) (λ c. search needs) (λ c. search needs) (λ c. search needs) (λ c. search (needs, to-phase)) (λ c. search (needs, to-phase)) (λ c. search (needs, to-phase)) (λ c. search (needs, to-phase)))
+is-answering-spec =
+    tie.close
+    (tie.spec (λ c. search needs) (λ c. search needs) (λ c. search needs) (λ c. search needs) (λ c. search (needs, to-phase))
+    (λ c. search (needs, to-phase)) (λ c. search (needs, to-phase)) (λ c. search (needs, to-phase)))

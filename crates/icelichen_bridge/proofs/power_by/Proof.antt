@@ -7,4 +7,7 @@ use Rattle.icelichen_bridge.proofs.power_by.Tie as tie
 
 pub power-by-spec : {M : Type 1} → statement M
 unfolding powerBy
-power-by-spec = tie.close (tie.spec (λ c κs. search needs) (λ c. search (needs, picks)) (λ c κs. search needs) (λ c. search (needs, picks)) (λ c κs. search needs) (λ c. search (needs, picks)) (λ c κs. search needs) (λ c. search (needs, picks)))
+power-by-spec =
+    tie.close
+    (tie.spec (λ c κs. search needs) (λ c. search (needs, picks)) (λ c κs. search needs) (λ c. search (needs, picks)) (λ c κs. search needs)
+    (λ c. search (needs, picks)) (λ c κs. search needs) (λ c. search (needs, picks)))

@@ -7,4 +7,8 @@ use Rattle.parts.proofs.of_open.Tie as tie
 
 pub of-open-spec : {M : Type 1} → statement M
 unfolding openParts
-of-open-spec = tie.close (tie.spec (λ c. search needs) (λ c κs. search needs) (λ c. search needs) (λ c κs. search needs) (λ c. search needs) (λ c κs. search needs) (λ c. search needs) (λ c κs. search needs) (λ c. search (needs, to-open)) (λ c. search (needs, to-open)) (λ c. search (needs, to-open)) (λ c. search (needs, to-open)))
+of-open-spec =
+    tie.close
+    (tie.spec (λ c. search needs) (λ c κs. search needs) (λ c. search needs) (λ c κs. search needs) (λ c. search needs) (λ c κs. search needs)
+    (λ c. search needs) (λ c κs. search needs) (λ c. search (needs, to-open)) (λ c. search (needs, to-open)) (λ c. search (needs, to-open))
+    (λ c. search (needs, to-open)))

@@ -7,4 +7,8 @@ use Rattle.parts.proofs.of_phase.Tie as tie
 
 pub of-phase-spec : {M : Type 1} → statement M
 unfolding phaseParts
-of-phase-spec = tie.close (tie.spec (λ c. search needs) (λ c κs. search needs) (λ c. search needs) (λ c κs. search needs) (λ c. search needs) (λ c κs. search needs) (λ c. search needs) (λ c κs. search needs) (λ c. search (needs, to-phase)) (λ c. search (needs, to-phase)) (λ c. search (needs, to-phase)) (λ c. search (needs, to-phase)))
+of-phase-spec =
+    tie.close
+    (tie.spec (λ c. search needs) (λ c κs. search needs) (λ c. search needs) (λ c κs. search needs) (λ c. search needs) (λ c κs. search needs)
+    (λ c. search needs) (λ c κs. search needs) (λ c. search (needs, to-phase)) (λ c. search (needs, to-phase)) (λ c. search (needs, to-phase))
+    (λ c. search (needs, to-phase)))

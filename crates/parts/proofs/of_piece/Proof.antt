@@ -5,4 +5,8 @@ use Rattle.parts.proofs.of_piece.Statement.{statement}
 use Rattle.parts.proofs.of_piece.Tie as tie
 
 pub of-piece-spec : {M : Type 1} → statement M
-of-piece-spec = tie.close (tie.spec (λ c. search needs) (λ c κs. search needs) (λ c. search needs) (λ c κs. search needs) (λ c. search needs) (λ c κs. search needs) (λ c. search needs) (λ c κs. search needs) (λ c. search (needs, to-piece)) (λ c. search (needs, to-piece)) (λ c. search (needs, to-piece)) (λ c. search (needs, to-piece)))
+of-piece-spec =
+    tie.close
+    (tie.spec (λ c. search needs) (λ c κs. search needs) (λ c. search needs) (λ c κs. search needs) (λ c. search needs) (λ c κs. search needs)
+    (λ c. search needs) (λ c κs. search needs) (λ c. search (needs, to-piece)) (λ c. search (needs, to-piece)) (λ c. search (needs, to-piece))
+    (λ c. search (needs, to-piece)))

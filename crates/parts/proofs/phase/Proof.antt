@@ -7,4 +7,7 @@ use Rattle.parts.proofs.phase.Tie as tie
 
 pub phase-spec : {M : Type 1} → statement M
 unfolding phaseOf
-phase-spec = tie.close (tie.spec (λ c. search (needs, picks)) (λ c κs. search needs) (λ c. search (needs, picks)) (λ c κs. search needs) (λ c. search (needs, picks)) (λ c. search (needs, picks)))
+phase-spec =
+    tie.close
+    (tie.spec (λ c. search (needs, picks)) (λ c κs. search needs) (λ c. search (needs, picks)) (λ c κs. search needs) (λ c. search (needs, picks))
+    (λ c. search (needs, picks)))

@@ -6,4 +6,7 @@ use Rattle.cells.proofs.given.clock.Tie as tie
 
 pub clock-spec : {M : Type 1} → statement M
 unfolding clockOf
-clock-spec = tie.close (tie.spec (λ c κs. search needs) (λ c κs. search needs) (λ c κs. search needs) (λ c κs. search needs) (λ c κs. search needs) (λ c κs. search needs) (λ c. cc))
+clock-spec =
+    tie.close
+    (tie.spec (λ c κs. search needs) (λ c κs. search needs) (λ c κs. search needs) (λ c κs. search needs) (λ c κs. search needs)
+    (λ c κs. search needs) (λ c. cc))

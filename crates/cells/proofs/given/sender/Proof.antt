@@ -6,4 +6,7 @@ use Rattle.cells.proofs.given.sender.Tie as tie
 
 pub sender-spec : {M : Type 1} → statement M
 unfolding senderOf
-sender-spec = tie.close (tie.spec (λ c κs. search needs) (λ c κs. search needs) (λ c κs. search needs) (λ c κs. search needs) (λ c κs. search needs) (λ c κs. search needs) (λ c. cc))
+sender-spec =
+    tie.close
+    (tie.spec (λ c κs. search needs) (λ c κs. search needs) (λ c κs. search needs) (λ c κs. search needs) (λ c κs. search needs)
+    (λ c κs. search needs) (λ c. cc))

@@ -7,4 +7,7 @@ use Rattle.parts.proofs.numbers.four.Tie as tie
 
 pub four-spec : {M : Type 1} → statement M
 unfolding four
-four-spec = tie.close (tie.spec (λ c. search needs) (λ c. search needs) (λ c. search needs) (λ c. search needs) (λ c. search needs) (λ c. search needs) (λ c. search (needs, four-back)))
+four-spec =
+    tie.close
+    (tie.spec (λ c. search needs) (λ c. search needs) (λ c. search needs) (λ c. search needs) (λ c. search needs) (λ c. search needs)
+    (λ c. search (needs, four-back)))
