@@ -23,8 +23,9 @@ import zlib
 TESTS = pathlib.Path(__file__).resolve().parent
 TOP = TESTS.parent
 sys.dont_write_bytecode = True
-sys.path.insert(0, str(TESTS / "mutation"))
+sys.path[:0] = [str(TESTS / "mutation"), str(TESTS / "model")]
 import outside  # noqa: E402
+from debian import had  # noqa: E402
 
 TOOL = TOP / "tools/panel"
 HEAVY = TOP / "examples/nights/heavy-shift.txt"
@@ -321,16 +322,8 @@ def otherwise(work):
 # ---- the browser ----
 
 def chromium():
-    """Chromium's command, or None; installs it where it is missing and can be."""
-    apt = ["apt-get", "-qq", "-o", "Acquire::Retries=1", "-o", "Acquire::http::Timeout=20"]
-    install = ["install", "-y", "--no-install-recommends", "chromium", "fonts-dejavu-core"]
-    for words in ([], install, ["update"], install):
-        if words and os.geteuid() == 0 and shutil.which("apt-get"):
-            home = {**os.environ, "DEBIAN_FRONTEND": "noninteractive"}
-            subprocess.run([*apt, *words], stdin=subprocess.DEVNULL, capture_output=True, env=home)
-        if found := shutil.which("chromium"):
-            return found
-    return None
+    """Chromium's command, or None."""
+    return shutil.which("chromium") if had(("chromium",), ("chromium", "fonts-dejavu-core")) else None
 
 
 def looked(browser, work, url, *more):

@@ -22,8 +22,9 @@ TOP = TESTS.parent
 sys.dont_write_bytecode = True
 sys.path[:0] = [str(TESTS / "mutation"), str(TESTS / "model"), str(TESTS / "waves")]
 import outside  # noqa: E402
+from debian import had  # noqa: E402
 from drawings import Drawing, marked, of_marks, of_page  # noqa: E402
-from dumps import Dump, by_gtkwave, by_sigrok, installed, sampled  # noqa: E402
+from dumps import Dump, by_gtkwave, by_sigrok, sampled  # noqa: E402
 from pair import built_model, joined  # noqa: E402
 from rules import due_marks, heard, read  # noqa: E402
 
@@ -405,7 +406,7 @@ def main():
         if writing:
             write(work)
         model = built_model(work)
-        others = installed()
+        others = had(("sigrok-cli", "vcd2fst", "fst2vcd"), ("sigrok-cli", "gtkwave"))
         bad = [*vcds(work, model, others), *states(work, model), *drawings(work), *marks(work), *kept(work), *calls(work), *stretches(work), *spoiled(work)]
     if bad:
         print(*bad[:20], sep="\n")

@@ -101,6 +101,14 @@ def check_refused(program, work):
         raise Wrong(f"the firmware with a full disk: status {ran.returncode}, says {ran.stderr!r}")
 
 
+def check_page():
+    """README has the shortest program as it stands, and what it prints."""
+    page = (ROOT / "README.md").read_text()
+    for text in ("```c\n" + (FIRMWARE / "shortest.c").read_text() + "```\n", f"`{SHORTEST.decode().strip()}`"):
+        if text not in page:
+            raise Wrong(f"README does not have this of examples/firmware/shortest.c:\n{text}")
+
+
 def check_programs(work):
     """The shortest program's line, and what the firmware does with damaged memory."""
     bridge, frames = made(BRIDGE), made(FRAMES)
@@ -128,6 +136,7 @@ def test():
         met, scripts = compared(ways, seeds, events)
         check_refused(ways["the firmware with sanitizers"], work)
         check_programs(work)
+        check_page()
     print(f"firmware: {scripts} scripts, {sum(met.values())} events alike with the bench program;", ", ".join(f"note {note}: {met[note]}" for note in REACHABLE))
 
 

@@ -1,7 +1,5 @@
 """What a VCD has: read here, by sigrok-cli and by GTKWave's reader."""
-import os
 import re
-import shutil
 import subprocess
 
 
@@ -67,19 +65,6 @@ def sampled(dump):
 
 
 # ---- a VCD, read by others ----
-
-def installed():
-    """Whether sigrok-cli and GTKWave's readers are here; installs them where they are missing and can be."""
-    apt = ["apt-get", "-qq", "-o", "Acquire::Retries=1", "-o", "Acquire::http::Timeout=20"]
-    install = ["install", "-y", "--no-install-recommends", "sigrok-cli", "gtkwave"]
-    for words in ([], install, ["update"], install):
-        if words and os.geteuid() == 0 and shutil.which("apt-get"):
-            home = {**os.environ, "DEBIAN_FRONTEND": "noninteractive"}
-            subprocess.run([*apt, *words], stdin=subprocess.DEVNULL, capture_output=True, env=home)
-        if all(map(shutil.which, ("sigrok-cli", "vcd2fst", "fst2vcd"))):
-            return True
-    return False
-
 
 def by_sigrok(vcd):
     """What sigrok-cli finds in a VCD, as `sampled` gives it but without SDO and the values of the line's words, and what it says of it."""
