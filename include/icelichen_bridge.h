@@ -101,6 +101,10 @@ uint64_t icelichen_drain(icelichen_bridge *bridge, uint16_t *tx, size_t tx_lengt
  * refuse. */
 uint32_t icelichen_answering(const icelichen_bridge *bridge);
 
+/* What the register at this address reads now, 0 to 65535, as REG_RD would answer it: STATUS, address 7, for the pins FAULT (bit 0) and DRDY (bit
+ * 10) where your host has them. -20 for an address over 11; -2 for what note 2 would refuse. Nothing changes by it. */
+int32_t icelichen_register(const icelichen_bridge *bridge, uint32_t address);
+
 static inline unsigned icelichen_note(uint32_t answer) { return answer >> 24; }
 static inline uint16_t icelichen_sdo(uint32_t answer) { return (uint16_t)(answer >> 8); }
 static inline unsigned icelichen_sout(uint32_t answer) { return answer & 1; }

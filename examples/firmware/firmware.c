@@ -6,6 +6,7 @@
 
 #define IDLE_SDO 0xFFFF
 #define IDLE_LINE 1
+#define STATUS 7                            /* its address (01 Registers) */
 
 static icelichen_bridge bridge;
 static uint16_t tx[ICELICHEN_TX], rx[ICELICHEN_RX];
@@ -82,9 +83,13 @@ void firmware_line_tick(void)
     board_write_sout(icelichen_sout(give(ICELICHEN_TICK, board_read_sin())));
 }
 
+/* The pins follow within a millisecond. A host that wants them sooner has this behind every event. */
 void firmware_millisecond(uint16_t reading)
 {
+    unsigned before = board_mask();
     give(ICELICHEN_CLOCK, reading);
+    board_write_status((uint16_t)icelichen_register(&bridge, STATUS));
+    board_unmask(before);
 }
 
 /* Not a power-up event: that would ask the memory for a bridge, and a dip may have left none there. */

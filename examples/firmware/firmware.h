@@ -3,6 +3,7 @@
  * What stays with the hardware:
  *   pins      SIN is sampled and SOUT set at the same edge of the line clock, one bit a tick; SOUT is 1 until firmware_start has run.
  *             SDO is off the wire while chip select is high, where other parts share it.
+ *             FAULT and DRDY are bits of STATUS; CLK_O is the line clock (docs/DIFFERENCES.md 1, Pins).
  *   clocks    the line timer's rate is the boards'; CCSICTRL does not set it (docs/DIFFERENCES.md). A line tick must be done before the next is
  *             due: where it is not, gather bits and give them as one list (icelichen_events; docs/HOST-GUIDE.md 1, "Many events in one call").
  *   voltage   levels of SPI and line, and a brown-out detector that calls firmware_supply: a dip of the supply is a power-up.

@@ -48,6 +48,12 @@ void board_write_sdo(uint16_t word)
     pins.sdo = word;
 }
 
+/* A script does not show these pins. */
+void board_write_status(uint16_t status)
+{
+    (void)status;
+}
+
 void board_note(uint32_t kind, unsigned note)
 {
     (void)kind;

@@ -7,12 +7,13 @@
 
 enum { POR_UP = 0x0403 };                   /* STATUS at power-up, 01 "Numbers on both sides" */
 
-static uint16_t sdo;
+static uint16_t sdo, pins;
 static unsigned sout, notes[ICELICHEN_NO_EVENT + 1], nested;
 
 unsigned board_read_sin(void) { return 1; }
 void board_write_sout(unsigned bit) { sout = bit; }
 void board_write_sdo(uint16_t word) { sdo = word; }
+void board_write_status(uint16_t status) { pins = status; }
 void board_note(uint32_t kind, unsigned note) { (void)kind; notes[note]++; }
 unsigned board_mask(void) { return nested++; }
 void board_unmask(unsigned before) { nested = before; }
@@ -46,6 +47,8 @@ int main(void)
     unsigned bad = 0;
     firmware_start(ICELICHEN_OTP_GOOD);
     bad += wrong("STATUS after the start", status() != POR_UP || notes[ICELICHEN_BROKEN_RECORD] != 0);
+    firmware_millisecond(1);
+    bad += wrong("the pins after the start", pins != POR_UP);
     memset(&bridge, 0xFF, sizeof bridge);
     sout = 0;
     firmware_line_tick();

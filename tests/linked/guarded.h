@@ -23,6 +23,7 @@ static_assert(alignof(icelichen_bridge) == alignof(uint64_t), "it is aligned as 
 #define LONGEST 40                      /* events of a list */
 #define ROOM (LONGEST * ICELICHEN_RESULT + 7)
 #define KINDS 5
+#define REGISTERS 12
 #define STATES 40                       /* that are tried, of each script */
 #define GOES_ON 12                      /* events behind a bridge that was taken */
 #define RANDOM_BRIDGES 20000
@@ -226,4 +227,14 @@ static uint32_t answering(struct place *p)
         fault("it neither answers nor does not", answer, 0);
     after_call("a question wrote", p, NOTHING, 0, answer);
     return answer;
+}
+
+static int32_t reads(struct place *p, uint32_t address)
+{
+    before_call(p);
+    int32_t value = icelichen_register(&p->bridge, address);
+    if (value > 0xFFFF || (value < 0 && value != ICELICHEN_OUTSIDE_LIMITS && value != -ICELICHEN_BROKEN_RECORD))
+        fault("a register reads what none can", (uint32_t)value, address);
+    after_call("a look at a register wrote", p, NOTHING, 0, (uint32_t)value);
+    return value;
 }

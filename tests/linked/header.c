@@ -11,6 +11,7 @@
  *   drain      beside single ticks: how many, where they end, what is left
  *   paper      drains whose ticks 01 gives
  *   answering  in an answer the host's word does not matter, else SDO is FFFF
+ *   registers  read as a host finds them
  *
  * guarded.h has the calls, each with a look at all that it must leave. The text is C and C++. Every fault has a line; with one the exit status is 1. The last line counts.
  */
@@ -37,6 +38,36 @@ static void try_answering(const struct place *state)
         if (early == 0 && icelichen_sdo(now) != 0xFFFF)
             fault("a word outside an answer is answered", WORDS[i], now);
     }
+}
+
+/* ---- registers ---- */
+
+/* What a host fetches of a register, in a copy. */
+static int32_t fetched(const struct place *p, uint32_t spoken, uint32_t address)
+{
+    static struct place copy;
+    uint16_t frame[2], answer[2], none = 0;
+    memcpy(&copy, p, sizeof copy);
+    int32_t length = icelichen_frame_in(spoken, ICELICHEN_REG_RD, 0, address, 1, &none, 0, frame, COUNT_OF(frame));
+    for (int32_t i = 0; i < length; i++)
+        if (icelichen_note(event(&copy, ICELICHEN_WORD, frame[i])) != ICELICHEN_DONE)
+            return -1;
+    for (size_t i = 0; i < COUNT_OF(answer); i++)
+        answer[i] = icelichen_sdo(event(&copy, ICELICHEN_WORD, 0xFFFF));
+    return icelichen_data_in(spoken, ICELICHEN_REG_RD, 0, address, 1, answer, COUNT_OF(answer)) == 1 ? answer[0] : -1;
+}
+
+/* Every register reads what a host finds there. Registers 0 and 1 say how it has to speak (02 item 7). */
+static void try_registers(const struct place *state)
+{
+    memcpy(trial, state, sizeof *trial);
+    event(trial, ICELICHEN_RELEASE, 0);
+    uint32_t spoken = reads(trial, 0) != 0xED99 ? ICELICHEN_OURS : (reads(trial, 1) & 4) == 0 ? ICELICHEN_MAKERS : ICELICHEN_MAKERS_XMODEM;
+    for (uint32_t address = 0; address < REGISTERS; address++)
+        if (reads(trial, address) != fetched(trial, spoken, address))
+            fault("a host finds another value in a register", address, spoken);
+    if (reads(trial, REGISTERS) != ICELICHEN_OUTSIDE_LIMITS || reads(trial, 65536 + 7) != ICELICHEN_OUTSIDE_LIMITS || reads(trial, MUCH) != ICELICHEN_OUTSIDE_LIMITS)
+        fault("an address past the last register", REGISTERS, spoken);
 }
 
 /* ---- power-up ---- */
@@ -182,8 +213,10 @@ static bool doubtful(const struct place *state, const icelichen_bridge *bridge)
             refusals += events_in(trial, ICELICHEN_TX, ICELICHEN_RX, records, sizeof records, ROOM) == -ICELICHEN_BROKEN_RECORD;
     }
     trial->bridge = *bridge;
-    if (refusals != 0 && answering(trial) != 0)
-        fault("what is no bridge answers", refusals, 0);
+    if (refusals != 0 && (answering(trial) != 0 || reads(trial, 7) != -ICELICHEN_BROKEN_RECORD))
+        fault("what is no bridge answers, or has registers", refusals, 0);
+    if (refusals == 0 && reads(trial, 7) < 0)
+        fault("a bridge that is taken has no STATUS", refusals, 0);
     if (refusals == KINDS + 2) {
         refused++;
         return false;
@@ -389,6 +422,7 @@ static void try_state(const struct place *state)
     states++;
     try_power_event(&lent);
     try_answering(&lent);
+    try_registers(&lent);
     try_drains(&lent);
     try_spoiled(&lent);
     try_flips(&lent);

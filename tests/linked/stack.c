@@ -21,8 +21,8 @@
 #define BUDGET 1000                     /* ticks of a drain */
 #define HEAD 5                          /* bytes of a script before its records */
 
-enum call { POWER_UP, EVENT, EVENTS, DRAIN, ANSWERING, CALLS };
-static const char *const NAMES[CALLS] = {"icelichen_power_up", "icelichen_event", "icelichen_events", "icelichen_drain", "icelichen_answering"};
+enum call { POWER_UP, EVENT, EVENTS, DRAIN, ANSWERING, REGISTER, CALLS };
+static const char *const NAMES[CALLS] = {"icelichen_power_up", "icelichen_event", "icelichen_events", "icelichen_drain", "icelichen_answering", "icelichen_register"};
 
 static struct {
     enum call call;
@@ -45,6 +45,7 @@ typedef int64_t events_call(icelichen_bridge *, uint16_t *, size_t, uint16_t *, 
 typedef uint64_t drain_call(icelichen_bridge *, uint16_t *, size_t, uint16_t *, size_t, uint32_t);
 
 typedef uint32_t answering_call(const icelichen_bridge *);
+typedef int32_t register_call(const icelichen_bridge *, uint32_t);
 
 /* A frame address lies below the return address and the frame pointer before it, eight bytes each (x86-64). */
 #define STAND_IN __attribute__((noinline)) static
@@ -84,11 +85,18 @@ STAND_IN uint32_t no_answering(const icelichen_bridge *b)
     return (uint32_t)b->cells[0];
 }
 
+STAND_IN int32_t no_register(const icelichen_bridge *b, uint32_t address)
+{
+    SEE_TOP;
+    return (int32_t)(b->cells[0] + address);
+}
+
 static power_up_call *volatile do_power_up;
 static event_call *volatile do_event;
 static events_call *volatile do_events;
 static drain_call *volatile do_drain;
 static answering_call *volatile do_answering;
+static register_call *volatile do_register;
 
 static void use(int real)
 {
@@ -97,6 +105,7 @@ static void use(int real)
     do_events = real ? icelichen_events : no_events;
     do_drain = real ? icelichen_drain : no_drain;
     do_answering = real ? icelichen_answering : no_answering;
+    do_register = real ? icelichen_register : no_register;
 }
 
 /* Runs on the painted stack. */
@@ -115,8 +124,11 @@ static void do_call(void)
     case DRAIN:
         do_drain(&bridge, tx, ICELICHEN_TX, rx, ICELICHEN_RX, asked.budget);
         break;
-    default:
+    case ANSWERING:
         do_answering(&bridge);
+        break;
+    default:
+        do_register(&bridge, asked.kind + 6);
         break;
     }
 }
@@ -168,6 +180,7 @@ static void play(const uint8_t *records, size_t count)
         asked.value = (uint32_t)record[1] << 8 | record[2];
         measure(EVENT);
         measure(ANSWERING);
+        measure(REGISTER);
     }
 }
 

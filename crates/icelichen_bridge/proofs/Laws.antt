@@ -5,13 +5,14 @@ use mathlib.Core.List.{List, [], _∷_}
 use Prim.Native.Nat.{ℕ, suc, _+_, _*_, _/_, _%_, _<_, _≤_}
 use native.Mathlib.Omega.{arith}
 use lib.Dec.{eqb}
-use lib.IntN.{ℤ, pos}
+use lib.IntN.{ℤ, pos, negsuc}
 use lib.ListN.{length}
-use mir.Syntax.{w64}
+use mir.Syntax.{w32, w64}
 use mir.Val.{toZ}
 use mir.Facts.{toZ-pos}
-use Rattle.base.specs.Pick.{pick, pick-true, pick-false, pick-lt, pick-not-lt, pick-keeps}
+use Rattle.base.specs.Pick.{pick, pick-true, pick-false, pick-told, pick-denied, pick-lt, pick-not-lt, pick-keeps}
 use Rattle.command.specs.Layouts.{Layouts}
+use Rattle.registers.specs.Registers.{readOf}
 use Rattle.state.specs.Notes.{noteNumber}
 use Rattle.state.specs.Rings.{txSize, rxSize}
 use Rattle.state.specs.declared.Bridge.{Bridge}
@@ -39,7 +40,7 @@ use Rattle.whole_night.specs.declared.Outcome.the-variants.{Done}
 use Rattle.cells.specs.Cells.{cellsOf}
 use Rattle.cells.specs.Lent.{lent, Image}
 use Rattle.cells.proofs.Laws.{image-lent}
-use Rattle.icelichen_bridge.specs.Calls.{answerNumber, answerOf, noEvent, done, called, unless, powerBy, powered, powerUpOn, powerLeaves, stepped, eventOn, stepLeaves, eventLeaves, listCode, calledList, eventsOn, eventsLeave, drainNumber, drainOn, drainLeaves, isAnswering, answers}
+use Rattle.icelichen_bridge.specs.Calls.{answerNumber, answerOf, noEvent, done, called, unless, powerBy, powered, powerUpOn, powerLeaves, stepped, eventOn, stepLeaves, eventLeaves, listCode, calledList, eventsOn, eventsLeave, drainNumber, drainOn, drainLeaves, isAnswering, answers, registerOn}
 
 -- numbers
 module _ (note : Note) (r : ℕ) (e : r ≡ noteNumber note) where
@@ -188,3 +189,22 @@ pub to-answering : (cells : List ℕ) (b : Bridge) (w t : Bool) (r : ℕ) → b 
     → r ≡ bitByte (answers (lent cells))
 unfolding answers
 to-answering cells b w t r eb ew et er = rw (er, ew, et, eb)
+
+-- what a register reads
+module _ (cells : List ℕ) (address : ℕ) where
+  pub to-no-register : 11 < address → negsuc 19 ≡ registerOn address (lent cells)
+  unfolding registerOn
+  to-no-register h = pick-lt 11 address _ _ _ h refl
+
+  module _ (b : Bridge) (t : Bool) (h : address ≤ 11) (eb : b ≡ lent cells) (et : t ≡ sound b) where
+    pub to-register : (v : ℕ) → t ≡ true → v ≡ readOf (b .control) (b .sending .tx .count) (b .receiving .rx .count) address → v < 65536
+        → toZ w32 v ≡ registerOn address (lent cells)
+    unfolding registerOn
+    to-register v k e f =
+        subst (λ (x : Bridge). toZ w32 v ≡ registerOn address x) eb
+        (pick-not-lt 11 address _ _ _ h (pick-told t (sound b) _ _ _ et k (toZ-pos w32 (omega arith) ∙ ap (λ (n : ℕ). pos n) e)))
+
+    pub to-broken-register : t ≡ false → negsuc 1 ≡ registerOn address (lent cells)
+    unfolding registerOn
+    to-broken-register k =
+        subst (λ (x : Bridge). negsuc 1 ≡ registerOn address x) eb (pick-not-lt 11 address _ _ _ h (pick-denied t (sound b) _ _ _ et k refl))

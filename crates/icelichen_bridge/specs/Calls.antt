@@ -8,6 +8,7 @@ use lib.IntN.{ℤ, pos, negsuc}
 use Rattle.base.specs.Pick.{pick}
 use Rattle.command.specs.Layouts.{Layouts}
 use Rattle.layout.specs.declared.Layout.the-variants.{Ours, Makers}
+use Rattle.registers.specs.Registers.{readOf}
 use Rattle.state.specs.Notes.{noteNumber}
 use Rattle.state.specs.Power.{powerUpIn, powerUpBadIn}
 use Rattle.state.specs.declared.Bridge.{Bridge}
@@ -156,3 +157,10 @@ isAnswering Discarding = false
 -- a broken record answers nothing: every event is refused. 01 Notes, 2
 unfoldable pub answers : Bridge → Bool
 answers b = sound b && isAnswering (b .frame .phase)
+
+-- WHAT A REGISTER READS NOW, as REG_RD would answer it (01 Registers): for the pins FAULT and DRDY, which are bits of STATUS. Below 0 a refusal, minus its
+-- number: 20 for an address past the last register (02 items 1 and 4), 2 for a broken record
+unfoldable pub registerOn : ℕ → Bridge → ℤ
+registerOn address b =
+    pick (ltb 11 address) (negsuc 19)
+    (pick (sound b) (pos (readOf (b .control) (b .sending .tx .count) (b .receiving .rx .count) address)) (negsuc 1))

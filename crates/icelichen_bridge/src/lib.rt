@@ -17,7 +17,7 @@ ghost use Rattle.bridge.specs.Step.{step as stepOf};
 ghost use Rattle.listing.specs.Results.{bitByte};
 ghost use Rattle.cells.specs.Cells.{cellsOf};
 ghost use Rattle.cells.specs.Lent.{lent as lentOf};
-ghost use Rattle.icelichen_bridge.specs.Calls.{answerNumber, eventBy, called, unless, powerBy, powered, powerUpOn, powerLeaves, stepped as steppedOf, eventOn, stepLeaves, eventLeaves, listCode, calledList, eventsOn, eventsLeave, drainNumber, drainOn, drainLeaves, isAnswering, answers};
+ghost use Rattle.icelichen_bridge.specs.Calls.{answerNumber, eventBy, called, unless, powerBy, powered, powerUpOn, powerLeaves, stepped as steppedOf, eventOn, stepLeaves, eventLeaves, listCode, calledList, eventsOn, eventsLeave, drainNumber, drainOn, drainLeaves, isAnswering, answers, registerOn};
 
 // Note 0 and note 22, with nothing on SDO and SOUT 1.
 const DONE: u32 = 0x00FFFF01;
@@ -209,4 +209,20 @@ pub extern "C" fn icelichen_answering(own: &Cells) -> u32
     let phase = frame.phase;
     let whole = rules::sound(b);
     bit(whole & is_answering(phase))
+}
+
+#[no_mangle]
+pub extern "C" fn icelichen_register(own: &Cells, address: u32) -> i32
+    ensures { λ r. ⌜ r ≡ registerOn address (lentOf (now (own .entry))) ⌝ }
+{
+    if 11 < address {
+        return -20;
+    }
+    let b = cells::lent(own);
+    if rules::sound(b) {
+        let tx = b.sending.tx.count;
+        let rx = b.receiving.rx.count;
+        return reading::read(b.control, tx, rx, address as u16) as i32;
+    }
+    -2
 }
