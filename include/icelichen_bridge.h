@@ -1,7 +1,8 @@
 /* The Icelichen bridge for programs in C (documents 01 and 02): host words, chip select, line ticks and clock readings in; SDO, SOUT and a note out.
- * The functions are proved (crates/icelichen_bridge): each call does what document 01 says of its event, and no accepted command is lost. Link
- * libicelichen_bridge.a behind your own objects. README, 'Put it into your controller', has the shortest program; examples/firmware is a whole one;
- * docs/HOST-GUIDE.md 1 says what to call when, 3 and 9 what each note asks for. The frames that a host sends are icelichen_frames.h.
+ * The functions are proved (crates/icelichen_bridge): each call does what document 01 says of its event, and README says what follows, that no
+ * accepted command is lost, with its premises. Link libicelichen_bridge.a behind your own objects. README, 'Put it into your controller', has the
+ * shortest program; examples/firmware is a whole one; docs/HOST-GUIDE.md 1 says what to call when, 7 what each note asks for. The frames that a host
+ * sends are icelichen_frames.h.
  *
  * What you own: one icelichen_bridge, an array of ICELICHEN_TX words and one of ICELICHEN_RX words. Keep them together, hand all three to every
  * call as the call before left them, and write into none of them. They need no first value but this: icelichen_power_up makes the bridge, and
@@ -16,7 +17,7 @@
  * also where its length is 0: give any array there. That is all that a caller can break.
  *
  * The functions keep nothing, allocate nothing, call nothing but memcpy and end for every input. One bridge is for one caller at a time: a call from an
- * interrupt must not come into another call on the same bridge (examples/firmware masks it, or queues the event). Different bridges do not meet.
+ * interrupt must not come into another call on the same bridge (examples/firmware masks it). Different bridges do not meet.
  */
 #ifndef ICELICHEN_BRIDGE_H
 #define ICELICHEN_BRIDGE_H
@@ -55,7 +56,7 @@ enum icelichen_power {
     ICELICHEN_MAKERS_OTP_GOOD = 3
 };
 
-/* Notes (document 01): docs/HOST-GUIDE.md 9 says what each asks for. */
+/* Notes (document 01): docs/HOST-GUIDE.md 7 says what each asks for. */
 enum icelichen_note {
     ICELICHEN_DONE = 0,
     ICELICHEN_WRONG_STORES = 1,

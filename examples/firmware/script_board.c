@@ -83,6 +83,8 @@ static bool read_record(FILE *in, int kind, uint16_t *value)
     return *value <= MOST[kind];
 }
 
+/* A word's SDO is asked for with the word itself: a script has no time between them, and an answer word that was fetched earlier would be read from
+ * RX before the ticks that stand between (docs/HOST-GUIDE.md 1, "SDO on a full-duplex wire"). */
 static void raise_interrupt(int kind, uint16_t value)
 {
     if (masked)
