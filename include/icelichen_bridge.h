@@ -6,8 +6,9 @@
  *
  * What you own: one icelichen_bridge, an array of ICELICHEN_TX words and one of ICELICHEN_RX words. Keep them together, hand all three to every
  * call as the call before left them, and write into none of them. They need no first value but this: icelichen_power_up makes the bridge, and
- * it alone; the arrays may hold anything. A bridge that was never powered up, or whose memory was damaged so that it is no bridge's any more, is
- * refused with note 2; arrays of other lengths with note 1. Then bridge and arrays are as they were.
+ * it alone; the arrays may hold anything. Memory that holds no bridge, all zeros for one, or a bridge that was damaged so that it is none any more, is
+ * refused with note 2; arrays of other lengths with note 1. Then bridge and arrays are as they were. What a bridge left in memory before a restart is
+ * a bridge, and is taken: power up first of all.
  *
  * An answer is one number, the four bytes of an event's result in document 02, item 6, the first byte highest: note, SDO (two bytes), SOUT.
  * icelichen_note, icelichen_sdo and icelichen_sout take it apart. SDO is 0xFFFF and SOUT 1 unless the event has something to say there.

@@ -13,7 +13,8 @@
  *   answering  in an answer the host's word does not matter, else SDO is FFFF
  *   registers  read as a host finds them
  *
- * guarded.h has the calls, each with a look at all that it must leave. The text is C and C++. Every fault has a line; with one the exit status is 1. The last line counts.
+ * guarded.h has the calls, each with a look at all that it must leave. The text is C and C++. Every fault has a line; with one the exit status is
+ * 1. The last line counts.
  */
 #include "guarded.h"
 
