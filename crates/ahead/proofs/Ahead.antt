@@ -162,7 +162,7 @@ module _ (c : Config) (n a : ℕ) (b : Begun c n a) where
       record {
         time = omega (arith, d, begun_bits.0, b.words);
         bits = omega (arith, d, begun_bits.0);
-        short = omega (arith, b.words, b.«in_tx»);
+        short = omega (arith, b.words, b.tx_holds);
       }
 
 -- Word k is due.

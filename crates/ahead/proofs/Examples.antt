@@ -76,7 +76,7 @@ begun = record {
   whole = record { stores = record { tx_is = refl; rx_is = refl }; rules = refl; eight = refl };
   start_bit = refl;
   words = refl;
-  in_tx = refl;
+  tx_holds = refl;
 }
 
 -- 18 ticks, the start bit's among them, then the second word

@@ -49,7 +49,7 @@ use Rattle.ahead.proofs.Waiting.{Poised, poised_place, poised_ticked, poised_per
 record Started (s t : Sending) (p : Place) : Type 0 where
   start_bit : t.sender.piece ≡ StartBit
   words : t.sender.left ≡ p.words
-  in_tx : t.tx.count ≡ s.tx.count
+  tx_holds : t.tx.count ≡ s.tx.count
 
 started_words : (b : Bridge) (p : Place) (least w : ℕ) → BridgeRules b → Poised b.sending p least → (x : Next) → Chosen b.sending x
     → is_start x ≡ true → Started b.sending (advanced x b.sending w) p
@@ -61,7 +61,7 @@ started_words b p least w r g LoadEnd h e = never false e refl
 started_words b p least w r g StartWords h e = record {
   start_bit = refl;
   words = ap (λ (x : Place). x.words) (poised_place p least b.sending g r.sending.queue r.sending.eight h.3 h.4);
-  in_tx = refl;
+  tx_holds = refl;
 }
 started_words b p least w r g StartEnds h e = never false e refl
 started_words b p least w r g Stay h e = never false e refl
@@ -71,7 +71,7 @@ started_ticked : (b : Bridge) (p : Place) (least : ℕ) (sin : Bool) (w : ℕ) �
 unfolding ticked tick_hears tick_ends tick_sender sent_by
 started_ticked b p least sin w r g h =
     let t : Started b.sending (advanced _ b.sending w) p = started_words b p least w r g _ (chosen b.sending (may_start b.control)) h in
-    record { start_bit = t.start_bit; words = t.words; in_tx = t.«in_tx» }
+    record { start_bit = t.start_bit; words = t.words; tx_holds = t.tx_holds }
 
 module _ (l : Layouts) (fits : LayoutFit l) where
   -- the event that queues it is a host's
@@ -141,12 +141,12 @@ module _ (l : Layouts) (fits : LayoutFit l) where
           whole = record { stores = o.stores; rules = facts_sound _ o.rules; eight = o.rules.sending.eight };
           start_bit = started.start_bit;
           words = started.words;
-          in_tx = refl;
+          tx_holds = refl;
         }
 
     level_in_tx : in_tx (start_of l c e es sin) < p.words → level c + 1 ≤ in_tx (start_of l c e es sin)
     level_in_tx h =
-        let k : level c + 1 ≤ in_tx before = poised_before.ahead (omega (arith, h, started.«in_tx»)) in omega (arith, k, started.«in_tx»)
+        let k : level c + 1 ≤ in_tx before = poised_before.ahead (omega (arith, h, started.tx_holds)) in omega (arith, k, started.tx_holds)
 
     -- what neither the level nor the command's words fall short of is there
     as_many : (m : ℕ) → m ≤ level c + 1 → m ≤ p.words → m ≤ in_tx (start_of l c e es sin)

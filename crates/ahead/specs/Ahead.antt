@@ -31,7 +31,7 @@ pub record Begun (c : Config) (n a : ℕ) : Type 0 where
   pub whole : Whole c
   pub start_bit : c.bridge.sending.sender.piece ≡ StartBit
   pub words : c.bridge.sending.sender.left ≡ n
-  pub in_tx : c.bridge.sending.tx.count ≡ a
+  pub tx_holds : c.bridge.sending.tx.count ≡ a
 
 -- EVENTS since the start bit's tick: the number of the next tick, 1 for the first, and the words that the host has stored meanwhile.
 unfoldable pub tick_after : List Event → ℕ

@@ -1,4 +1,7 @@
 // The answer (01 Frames, "Reads answer the words, each read as it is answered, then their CRC"; note 15).
+
+#![tactic(auto)]
+
 ghost use Rattle.std.specs.Prelude.{◌≡◌, true, ◌+◌, ◌-◌, ◌<◌, leb};
 ghost use Rattle.base.specs.Pick.{pick};
 ghost use Rattle.command.specs.Layouts.{layouts};

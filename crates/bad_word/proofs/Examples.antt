@@ -6,7 +6,7 @@ use mathlib.Core.List.{List, [], ◌∷◌, ◌++◌, map}
 use Prim.Native.Nat.{ℕ, ◌<◌, min}
 use native.Mathlib.Omega.{arith}
 use lib.ListN.{length, take, drop}
-use borrow.Author.Tests.{not_true}
+use borrow.Author.Tests.{not-true}
 use Rattle.base.specs.Bits.{word_end}
 use Rattle.base.specs.Pick.{and_l, and_r}
 use Rattle.crc16.specs.Crc.{crc_of}
@@ -80,8 +80,8 @@ module _ (l : Layouts) where
   is_left : (c : Config) (e : Event) → leaves l c e ≡ true → Leaves l c e
   unfolding leaves
   is_left c e h = record {
-    no_power = not_true _ (search (and_l, and_r));
-    no_reset = not_true _ (search (and_l, and_r));
+    no_power = not-true _ (search (and_l, and_r));
+    no_reset = not-true _ (search (and_l, and_r));
     no_clear = λ k. either (check_bit_of c) _ (search (and_l, and_r)) k;
   }
 

@@ -8,7 +8,7 @@ use native.Mathlib.Numerals.{add-one}
 use lib.Dec.{leb}
 use lib.ListN.{length, get_or, set, replicate, take}
 use lib.Seq.{sets, sets-eq, take-append_seam, get_or-set_same, get_or-set_other}
-use borrow.Author.Tests.{le-leb, leb-true, not_true}
+use borrow.Author.Tests.{le-leb, leb-true, not-true}
 use Rattle.base.specs.Pick.{and_l, and_r, and_both}
 use Rattle.line.specs.Format.{Words}
 use Rattle.registers.specs.Registers.{is_normal, blocking}
@@ -51,8 +51,8 @@ ready_open c h =
     let n : (normal && clear) ≡ true = and_l _ (not (blocking c.bridge.control.flags)) m in
     record {
       normal = normal_only _ (and_l normal clear n);
-      clear = not_true _ (and_r normal clear n);
-      unblocked = not_true _ (and_r (normal && clear) _ m);
+      clear = not-true _ (and_r normal clear n);
+      unblocked = not-true _ (and_r (normal && clear) _ m);
       idle_frame = idle_only _ (and_r (may_start c.bridge.control) _ h);
     }
 

@@ -1,4 +1,7 @@
 // The call-up board (02, item 13): forty slots, and call-ups given to the bridge by its published `step`, in frames of item 1's writer.
+
+#![tactic(auto)]
+
 ghost use Rattle.std.specs.Prelude.{◌≡◌, ◌≤◌, length};
 ghost use Rattle.command.specs.Layouts.{start_by, layouts};
 ghost use Rattle.registers.specs.Spictrl.{is_xmodem};
@@ -17,20 +20,20 @@ use state::Bridge;
 use verdict::Verdict;
 
 // What a slot shows: reading and words of its last call-up.
-#[derive(Drop)]
+#[derive(Clone, Copy)]
 pub struct Slot {
     pub reading: u16,
     pub count: u16,
     pub words: [u16; 30],
 }
 
-#[derive(Drop)]
+#[derive(Clone, Copy)]
 pub struct Board {
     pub slots: [Slot; 40],
 }
 
 // What a call-up leaves.
-#[derive(Drop)]
+#[derive(Clone, Copy)]
 pub struct Called {
     pub board: Board,
     pub bridge: Bridge,

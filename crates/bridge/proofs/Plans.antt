@@ -71,7 +71,7 @@ writes_calm : (e : Effects) (busy : Bool) (address : ℕ) (vs : List ℕ) → bl
     → blocking (write_all e busy address vs).control.flags ≡ false
 unfolding write_all with_write
 writes_calm e busy address [] h = h
-writes_calm e busy address (v ∷ vs) h = writes_calm _ busy (address + 1) vs (write_calm e.control busy address v h)
+writes_calm e busy address (v ∷ vs) h = writes_calm (with_write e (write_of e.control busy address v)) busy (address + 1) vs (write_calm e.control busy address v h)
 
 module _ (b : Bridge) where
   -- what leaves the control alone, with a note of the host's

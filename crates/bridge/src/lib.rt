@@ -1,5 +1,8 @@
 // The bridge for the outside: every event in every state gets an answer; wrong stores and broken records are refused, and then everything is
 // as lent.
+
+#![tactic(auto)]
+
 ghost use Rattle.std.specs.Prelude.{◌≡◌};
 ghost use Rattle.command.specs.Layouts.{layouts};
 ghost use Rattle.events.specs.Turn.{out};

@@ -1,4 +1,7 @@
 // The bridge's record in lent cells, for programs in C (include/icelichen_bridge.h): put into them, and read from them.
+
+#![tactic(auto)]
+
 mod cell;
 mod given;
 

@@ -1,4 +1,7 @@
 // The bridge with the chain of boards behind it: ticks, and waits of many ticks (02, item 13).
+
+#![tactic(auto)]
+
 ghost use Rattle.std.specs.Prelude.{◌≡◌};
 ghost use Rattle.command.specs.Layouts.{layouts};
 ghost use Rattle.drain.specs.Drain.{at_rest};
@@ -11,14 +14,14 @@ use events::Event;
 use state::Bridge;
 
 // What a wait is for: that a call-up for this slot, of so many words, finds room; that nothing is left to send.
-#[derive(Drop)]
+#[derive(Clone, Copy)]
 pub enum Goal {
     Room { slot: u16, words: usize },
     Sent,
 }
 
 // What a tick leaves, and the bit that went out.
-#[derive(Drop)]
+#[derive(Clone, Copy)]
 pub struct Ticked {
     pub bridge: Bridge,
     pub oldest: usize,
@@ -26,7 +29,7 @@ pub struct Ticked {
 }
 
 // What a wait leaves: the ticks made, and the bit of the last.
-#[derive(Drop)]
+#[derive(Clone, Copy)]
 pub struct Waited {
     pub bridge: Bridge,
     pub oldest: usize,

@@ -1,4 +1,7 @@
 // A clock reading: the SIN watch and the SPI watchdog (01 The line).
+
+#![tactic(auto)]
+
 ghost use Rattle.std.specs.Prelude.{◌≡◌};
 ghost use Rattle.clock.specs.Clock.{elapsed as elapsed_of, watch_fires, dog_fires, clocked as clocked_of, clocked_by, control_at, mode_at, flags_at};
 

@@ -1,4 +1,7 @@
 // The CRC word (01 Frames; notes 6, 7, 10 and 11).
+
+#![tactic(auto)]
+
 ghost use Rattle.std.specs.Prelude.{◌≡◌, Bool, true, ℕ, ◌+◌, ◌≤◌};
 ghost use Rattle.command.specs.Layouts.{layouts};
 ghost use Rattle.closing.specs.Closing.{closed as closed_of, wrong_crc, forward_closed, registers_closed, read_closed, reset_closed, crc_due};

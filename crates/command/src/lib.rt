@@ -1,4 +1,7 @@
 // The command words of a frame, in either layout, and where its CRC starts (01 Frames; 02 item 7). Of the bridge only this crate knows their bits; the host's side, `frames`, writes them.
+
+#![tactic(auto)]
+
 ghost use Rattle.std.specs.Prelude.{◌≡◌};
 ghost use Rattle.command.specs.Layout.{fields_of, spans as spans_of, register_write, register_read, soft_reset, decode_by};
 ghost use Rattle.command.specs.Layouts.{start_by};
@@ -6,7 +9,7 @@ ghost use Rattle.command.specs.Layouts.{start_by};
 use layout::Layout;
 
 // What a command word asks. `crc`: the command is named _CRC and acts at a right CRC word only.
-#[derive(Drop)]
+#[derive(Clone, Copy)]
 pub enum Command {
     Filler,
     Malformed,
@@ -35,7 +38,7 @@ pub enum Command {
 
 // The fields of a command word's low twelve bits: words and extra ENDs of 4 to 7; of 10 to 13 the zero bits' being zero, address and count; of 14
 // its fixed bits' being right.
-#[derive(Drop)]
+#[derive(Clone, Copy)]
 pub struct Fields {
     pub words: u16,
     pub ends: u16,

@@ -90,6 +90,6 @@ pub by_nibbles_lem : (c w : ℕ) → c < 65536 → by_nibbles c w ≡ crc_word c
 unfolding by_nibbles crc_word
 by_nibbles_lem c w h = pieces_in 4 12 refl 4 c w h
 
-pub by_bytes : (c w : ℕ) → c < 65536 → by_bytes c w ≡ crc_word c w
+pub by_bytes_lem : (c w : ℕ) → c < 65536 → by_bytes c w ≡ crc_word c w
 unfolding by_bytes crc_word
-by_bytes c w h = pieces_in 8 8 refl 2 c w h
+by_bytes_lem c w h = pieces_in 8 8 refl 2 c w h

@@ -1,5 +1,8 @@
 // CRC-16, polynomial x^16 + x^12 + x^5 + 1, high bit first, no final change (01 Frames, "CRC (ours)"), by a table of the steps of
 // four bits (02 item 5).
+
+#![tactic(auto)]
+
 ghost use Rattle.std.specs.Prelude.{◌≡◌, ◌/◌, ◌%◌, ◌<◌};
 ghost use Rattle.crc16.specs.Crc.{crc_word, crc_of};
 ghost use Rattle.crc16.specs.Tables.{entry_of, fed};

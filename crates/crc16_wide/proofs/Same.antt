@@ -8,7 +8,7 @@ use borrow.Author.Tests.{eq-eqb}
 use Rattle.crc16.specs.Crc.{shifts}
 use Rattle.crc16.specs.Tables.{entry_of, by_nibbles, by_bytes}
 use Rattle.crc16.proofs.Linear.{lows}
-use Rattle.crc16.proofs.Pieces.{by_nibbles_lem, by_bytes}
+use Rattle.crc16.proofs.Pieces.{by_nibbles_lem, by_bytes_lem}
 use Rattle.crc16.proofs.crc_word.Reads as narrow_word
 use Rattle.crc16.proofs.crc_list.Reads as narrow_list
 use Rattle.crc16_wide.proofs.crc_word.Reads as wide_word
@@ -16,7 +16,7 @@ use Rattle.crc16_wide.proofs.crc_list.Reads as wide_list
 
 -- for every CRC so far and every word
 pub same : (c w : ℕ) → c < 65536 → w < 65536 → by_nibbles c w ≡ by_bytes c w
-same c w h k = by_nibbles_lem c w h ∙ sym (by_bytes c w h)
+same c w h k = by_nibbles_lem c w h ∙ sym (by_bytes_lem c w h)
 
 -- the sixteen entries are the first sixteen of the 256
 pub first_sixteen : (k : ℕ) → k < 16 → entry_of 4 k ≡ entry_of 8 k

@@ -1,5 +1,8 @@
 // The CRC by document 01's table of 256 entries, one lookup a byte: the contract of `crc16`, for `crc16_main` and `speed` alone (02 item 5, "the larger
 // table stays in the bench build"). No library crate depends on this one (tests/bench_alone.py).
+
+#![tactic(auto)]
+
 ghost use Rattle.std.specs.Prelude.{◌≡◌, true};
 ghost use Rattle.crc16.specs.Crc.{crc_word, crc_of};
 ghost use Rattle.crc16.specs.Tables.{entry_of, fed};

@@ -1,4 +1,7 @@
 // What a frame does to the sending side (01 Frames; Registers, "Transmit clear").
+
+#![tactic(auto)]
+
 ghost use Rattle.std.specs.Prelude.{◌≡◌};
 ghost use Rattle.state.specs.Facts.{SendFit, Doable};
 ghost use Rattle.state.specs.Sending.{idle, stored as stored_of, done as done_of};

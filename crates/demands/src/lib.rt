@@ -1,1 +1,3 @@
 // The three demands in one place: `specs/Demands.antt` states them, `proofs/Demands.antt` cites what proves each.
+
+#![tactic(auto)]

@@ -5,7 +5,7 @@ use mathlib.Core.List.{List, ◌∷◌}
 use Prim.Native.Nat.{ℕ, ◌+◌, ◌-◌, ◌*◌, ◌≤◌, ◌<◌}
 use native.Mathlib.Omega.{arith}
 use lib.Dec.{ltb}
-use borrow.Author.Tests.{ltb-true, ltb-false, leb-true, eqb-true, lt-ltb, le-ltb, eq-eqb, le-leb, not_true}
+use borrow.Author.Tests.{ltb-true, ltb-false, leb-true, eqb-true, lt-ltb, le-ltb, eq-eqb, le-leb, not-true}
 use Rattle.base.specs.Pick.{pick, pick_keeps, and_l, and_r}
 use Rattle.base.specs.Truth.{never}
 use Rattle.line.specs.Format.{piece_length}
@@ -131,5 +131,5 @@ module _ (s : Sending) (w m : ℕ) (r : SendRules s 0 m) where
       let o : piece_length s.sender.piece ≤ s.sender.gone = leb-true _ _ (search (and_l, and_r)) in
       let z : s.sender.left ≡ 0 = eqb-true _ _ (search (and_l, and_r)) in
       let y : s.sender.ends ≡ 0 = eqb-true _ _ (search (and_l, and_r)) in
-      let b : ltb s.queue.begun s.queue.used ≡ false = not_true _ (search (and_l, and_r)) in
+      let b : ltb s.queue.begun s.queue.used ≡ false = not-true _ (search (and_l, and_r)) in
       rw (waiting_none s.queue (ltb-false _ _ b)) (omega arith)

@@ -7,7 +7,7 @@ use lull::Hot;
 use state::Bridge;
 
 // The ticks made so far, and what they moved.
-#[derive(Drop)]
+#[derive(Clone, Copy)]
 pub struct Glide {
     pub ticks: u32,
     pub hot: Hot,

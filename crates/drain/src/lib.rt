@@ -1,4 +1,7 @@
 // Draining (01 The line): ticks with SIN 1 until nothing is left to send, and their number.
+
+#![tactic(auto)]
+
 mod glide;
 
 ghost use Rattle.std.specs.Prelude.{◌≡◌};
@@ -10,7 +13,7 @@ use events::Event;
 use state::{Bridge, Note};
 
 // The state left, the ticks made, and the note that stopped them.
-#[derive(Drop)]
+#[derive(Clone, Copy)]
 pub struct Drained {
     pub state: Bridge,
     pub ticks: u32,

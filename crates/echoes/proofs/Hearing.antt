@@ -19,7 +19,7 @@ use Rattle.line.specs.declared.Found.{Found}
 use Rattle.line.specs.declared.Found.TheVariants.{Nothing, Start, Word, End}
 use Rattle.line.specs.declared.Piece.{Piece}
 use Rattle.line.specs.declared.Piece.TheVariants.{StartBit, WordPiece, EndPiece}
-use Rattle.line.proofs.Hears.{InWord, WordOn, word_none, word_on, word_end, listen, end_on, end_after_one, end_on_zero, end_after_zero}
+use Rattle.line.proofs.Hears.{InWord, WordOn, word_none, word_on, word_end_lem, listen, end_on, end_after_one, end_on_zero, end_after_zero}
 use Rattle.state.specs.Sending.{idle}
 use Rattle.state.specs.declared.Sender.{Sender}
 
@@ -103,7 +103,7 @@ module _ (e : Ear) where
       elim (ℕ_discrete s.gone 16) [
         | yes g ↦
             (let o : piece_length s.piece ≤ s.gone + 1 = rw p (omega arith) in
-            by_hear _ e _ 0 1 1 (Group (next_number i) 0 0 (val (check_bit w))) (Word w) (rw (p, g) (word_end i w e (rw g at d)))
+            by_hear _ e _ 0 1 1 (Group (next_number i) 0 0 (val (check_bit w))) (Word w) (rw (p, g) (word_end_lem i w e (rw g at d)))
             (between (next_number i) (check_bit w) o n refl) (words w))
         | no g ↦
             (let l : s.gone < 16 = omega arith in

@@ -9,7 +9,7 @@ use native.Mathlib.Omega.{arith}
 use native.Mathlib.Decide.{ℕ_discrete}
 use lib.Dec.{ltb, eqb}
 use lib.ListN.{length}
-use borrow.Author.Tests.{ltb-false, le-ltb, eq-eqb, ne_eqb, not_true}
+use borrow.Author.Tests.{ltb-false, le-ltb, eq-eqb, ne_eqb, not-true}
 use Rattle.base.specs.Pick.{pick, pick_keeps, and_l, and_r}
 use Rattle.base.specs.Bits.{val}
 use Rattle.base.specs.Truth.{and_last}
@@ -111,14 +111,14 @@ module _ (s : Sending) (r : SendRules s 0 0) where
   unfolding choose pick
   rest_stays h =
       let i : idle s.sender ≡ true = and_l _ _ h in
-      let b : ltb s.queue.begun s.queue.used ≡ false = not_true _ (and_r (idle s.sender) _ h) in
+      let b : ltb s.queue.begun s.queue.used ≡ false = not-true _ (and_r (idle s.sender) _ h) in
       rw (le-ltb s.sender.gone (piece_length s.sender.piece) (idle_over s.sender i), idle_left s.sender i, idle_ends s.sender i, b) refl
 
   -- nor is anything left after it
   stay_left : (w : ℕ) → sent_all s ≡ true → remaining (tick_sender s true w).sending ≡ 0
   unfolding tick_sender sent_by remaining advanced sender_after cost_of
   stay_left w h =
-      let b : ltb s.queue.begun s.queue.used ≡ false = not_true _ (and_r (idle s.sender) _ h) in
+      let b : ltb s.queue.begun s.queue.used ≡ false = not-true _ (and_r (idle s.sender) _ h) in
       let k : Kept s.queue (finished (advanced Stay s w)).queue = kept_finished (advanced Stay s w) r.queue r.eight in
       rw (rest_stays h, k.waits, waiting_none s.queue (ltb-false _ _ b)) refl
 
@@ -254,7 +254,7 @@ module _ (l : Layouts) (fits : LayoutFit l) (c : Config) (chain : List Bool) (la
             (let g : lag ≡ 0 = rw (eq-eqb (remaining here) 0 z) at h in
             let a : sent_all here ≡ true = rests here rules_here z in
             let i : idle here.sender ≡ true = and_l _ _ a in
-            let b : ltb here.queue.begun here.queue.used ≡ false = not_true _ (and_r (idle here.sender) _ a) in
+            let b : ltb here.queue.begun here.queue.used ≡ false = not-true _ (and_r (idle here.sender) _ a) in
             let n = none_begun t.then chain here.sender t.others lag t.path g in
             let k : t.inside ≡ 0 = idle_out t.then _ t.inside (n.1 i) t.hears in
             let q : here.queue.begun ≡ 0 = none_begun_left here rules_here.queue rules_here.eight t.obeys.rules.stands i (omega (arith, t.count, n.0)) in

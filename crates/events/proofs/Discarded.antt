@@ -3,7 +3,7 @@ use mathlib.Core.Path.{◌≡◌, refl, sym, ◌∙◌, ap, ap₂}
 use mathlib.Core.Bool.{Bool, true, false, not, ◌&&◌, ◌||◌}
 use Prim.Native.Nat.{ℕ}
 use lib.Dec.{ltb, eqb}
-use borrow.Author.Tests.{not_true}
+use borrow.Author.Tests.{not-true}
 use Rattle.base.specs.Pick.{pick}
 use Rattle.command.specs.Layouts.{Layouts}
 use Rattle.host.specs.Frames.{planned_in, planned}
@@ -30,7 +30,7 @@ settled_stays c count s = ap (λ (d : Bool). record { mode = c.mode; drdy = d; f
   where
     go : (empty over drdy : Bool) → pick empty drdy (not (over && drdy)) ≡ true → pick empty true (pick (over || false) false drdy) ≡ drdy
     go true over drdy h = sym h
-    go false true drdy h = sym (not_true drdy h)
+    go false true drdy h = sym (not-true drdy h)
     go false false drdy h = refl
 
 -- what is left: the bridge with its watchdog marked, nothing on either line, nothing stored

@@ -4,7 +4,7 @@ use mathlib.Core.Bool.{Bool, true, false, not, ◌&&◌, ◌||◌}
 use Prim.Native.Nat.{ℕ}
 use lib.Dec.{ltb, leb, eqb}
 use lib.ListN.{length}
-use borrow.Author.Tests.{not_true, eq-eqb}
+use borrow.Author.Tests.{not-true, eq-eqb}
 use Rattle.base.specs.Pick.{pick, and_l, and_r}
 use Rattle.ticks.specs.Ticks.{blocked_in, flags_sent, phase_after, control_ticked, tick_ends, tick_hears, ticked}
 use Rattle.command.specs.declared.Command.{Command}
@@ -42,13 +42,13 @@ blocked_owes_none (Collecting Filler got sum mine released blocked) s = cc
 blocked_owes_none (Collecting Malformed got sum mine released blocked) s = cc
 blocked_owes_none (Collecting (Forward crc words ends reads) got sum mine released blocked) s = blocked_brings_none _ got released
 blocked_owes_none (Collecting (DataRead crc words) got sum mine released blocked) s =
-    unreleased_owes_none _ _ _ _ (not_true released (search (and_l, and_r)))
+    unreleased_owes_none _ _ _ _ (not-true released (search (and_l, and_r)))
 blocked_owes_none (Collecting (RegisterWrite crc address count) got sum mine released blocked) s =
-    unreleased_owes_none _ _ _ _ (not_true released (search (and_l, and_r)))
+    unreleased_owes_none _ _ _ _ (not-true released (search (and_l, and_r)))
 blocked_owes_none (Collecting (RegisterRead crc address count) got sum mine released blocked) s =
-    unreleased_owes_none _ _ _ _ (not_true released (search (and_l, and_r)))
+    unreleased_owes_none _ _ _ _ (not-true released (search (and_l, and_r)))
 blocked_owes_none (Collecting SoftReset got sum mine released blocked) s =
-    unreleased_owes_none _ _ _ _ (not_true released (search (and_l, and_r)))
+    unreleased_owes_none _ _ _ _ (not-true released (search (and_l, and_r)))
 blocked_owes_none (Answering reply sum) s = refl
 blocked_owes_none Discarding s = refl
 

@@ -1,4 +1,7 @@
 // One event (01 What the bridge is): what its rule does to the state, and the cells that it writes. Only this crate touches the stores.
+
+#![tactic(auto)]
+
 mod react;
 
 ghost use Rattle.std.specs.Prelude.{◌≡◌, ℕ, length};
@@ -10,7 +13,7 @@ ghost use Rattle.events.specs.Turn.{out, Ready, turn as turn_of};
 use layout::Layout;
 use state::{Bridge, Note, Ring, Store};
 
-#[derive(Drop)]
+#[derive(Clone, Copy)]
 pub enum Event {
     Power { good: bool, layout: Layout },
     Word(u16),
@@ -20,7 +23,7 @@ pub enum Event {
 }
 
 // What an event leaves and says.
-#[derive(Drop)]
+#[derive(Clone, Copy)]
 pub struct Answer {
     pub state: Bridge,
     pub sdo: u16,

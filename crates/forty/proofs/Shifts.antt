@@ -6,7 +6,7 @@ use Prim.Native.Nat.{ℕ, suc, ◌+◌, ◌-◌, ◌*◌, ◌≤◌}
 use native.Mathlib.Omega.{arith}
 use lib.Dec.{ltb, eqb}
 use lib.ListN.{length}
-use borrow.Author.Tests.{ne_eqb, eqb-true, ltb-false, not_true}
+use borrow.Author.Tests.{ne_eqb, eqb-true, ltb-false, not-true}
 use Rattle.base.specs.Pick.{pick, pick_keeps, and_l, and_r}
 use Rattle.base.specs.Truth.{never}
 use Rattle.command.specs.Layouts.{layouts}
@@ -154,7 +154,7 @@ unfolding met
 sent_all_lem m i h =
     let s = m.at.bridge.sending in
     let k : (idle s.sender && not (ltb s.queue.begun s.queue.used)) ≡ true = rw (may_open m.at i.free) at h in
-    let b : ltb s.queue.begun s.queue.used ≡ false = not_true _ (and_r (idle s.sender) _ k) in
+    let b : ltb s.queue.begun s.queue.used ≡ false = not-true _ (and_r (idle s.sender) _ k) in
     let u : s.queue.used ≤ s.queue.begun = ltb-false _ _ b in
     record { idle_sender = and_l _ _ k; none_waits = omega (arith, u, i.tuned.obeys.rules.sending.queue.order) }
 

@@ -1,4 +1,7 @@
 // Forwards (01 Frames, "Forwards store data words as they come"; notes 5, 8 and 9).
+
+#![tactic(auto)]
+
 ghost use Rattle.std.specs.Prelude.{◌≡◌, ◌&&◌, ◌||◌, ◌+◌, ◌<◌, leb};
 ghost use Rattle.base.specs.Pick.{pick};
 ghost use Rattle.state.specs.Rings.{tx_size};
@@ -11,7 +14,7 @@ use registers::{Control, Flag};
 use state::{Bridge, Deed, Fwd, Note, Phase, Place, Progress, Queue, Store};
 
 // What a forward asks: a word to store, and whether its command is to be queued.
-#[derive(Drop)]
+#[derive(Clone, Copy)]
 pub struct Wish {
     pub store: Store,
     pub release: bool,
@@ -19,7 +22,7 @@ pub struct Wish {
 }
 
 // What is granted of a wish.
-#[derive(Drop)]
+#[derive(Clone, Copy)]
 pub struct Granted {
     pub store: Store,
     pub deed: Deed,

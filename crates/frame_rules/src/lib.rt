@@ -1,4 +1,7 @@
 // The record rules of registers, flags and frame, as a test; and what a frame has in TX and has still to bring. It asks nothing of the state.
+
+#![tactic(auto)]
+
 ghost use Rattle.std.specs.Prelude.{◌≡◌, ◌||◌, ◌+◌, leb};
 ghost use Rattle.frame_rules.specs.Frames.{otp_sound, drdy_sound, bad_word_sound, control_sound, algorithm_sound, is_unmarked, flags_sound};
 ghost use Rattle.base.specs.Pick.{pick};

@@ -1,5 +1,8 @@
 // The host's side of a frame (02, item 1): an order becomes the words to send, and the words that came back become STATUS or data. It knows the
 // command words of either layout and the CRC (02, item 7), and nothing of the bridge.
+
+#![tactic(auto)]
+
 ghost use Rattle.std.specs.Prelude.{◌≡◌, ◌∷◌, ◌+◌, ◌≤◌, length};
 ghost use Rattle.crc16.specs.Crc.{crc_from};
 ghost use Rattle.frames.specs.Answers.{is_answer, told_of, answer_refusal};
@@ -11,7 +14,7 @@ use layout::Layout;
 pub use rows::order_of;
 
 // A command of 01's table, by the name that stands there, with the fields of its row that its data words do not give.
-#[derive(Drop)]
+#[derive(Clone, Copy)]
 pub enum Order {
     FwdWrCrc,
     FwdWr,
@@ -29,21 +32,21 @@ pub enum Order {
 }
 
 // An order told by numbers, or that the numbers are no order's.
-#[derive(Drop)]
+#[derive(Clone, Copy)]
 pub enum Named {
     Unknown,
     Known(Order),
 }
 
 // An order's command word, where it is within its limits.
-#[derive(Drop)]
+#[derive(Clone, Copy)]
 pub enum Head {
     Outside,
     Word(u16),
 }
 
 // A frame of so many words, or a refusal: 20, 21.
-#[derive(Drop)]
+#[derive(Clone, Copy)]
 pub enum Written {
     Frame(u16),
     OutsideLimits,
@@ -51,7 +54,7 @@ pub enum Written {
 }
 
 // What is due as an answer: STATUS, or so many words of data.
-#[derive(Drop)]
+#[derive(Clone, Copy)]
 pub enum Due {
     Nothing,
     StatusDue,
@@ -59,7 +62,7 @@ pub enum Due {
 }
 
 // What an answer says: STATUS, so many words of data, or a refusal: 20.
-#[derive(Drop)]
+#[derive(Clone, Copy)]
 pub enum Told {
     Status(u16),
     Data(u16),

@@ -6,7 +6,7 @@ use Prim.Native.Nat.{ℕ, zero, suc, ◌+◌, ◌≤◌, ◌<◌}
 use native.Mathlib.Omega.{arith}
 use lib.Dec.{leb, eqb}
 use lib.ListN.{length, get_or, take, replicate, length-replicate, get_or-replicate}
-use borrow.Author.Tests.{leb-true, le-leb, eqb-true, not_true, eqb-false}
+use borrow.Author.Tests.{leb-true, le-leb, eqb-true, not-true, eqb-false}
 use Rattle.base.specs.Bits.{all_ones, val, odd, bit, high_first}
 use Rattle.base.specs.Pick.{pick, pick_keeps, and_l, and_r, and_both}
 use Rattle.crc16.specs.Crc.{shift, crc_bit, crc_bits, crc_word, crc_from}
@@ -40,7 +40,7 @@ never_ones : (n c k : ℕ) → others n c ≡ true → k < n → crc_from c (rep
 unfolding crc_from
 never_ones zero c k t h e = omega arith
 never_ones (suc n) c zero t h e =
-    eqb-false (crc_word c all_ones) all_ones (not_true _ (and_l (not (eqb (crc_word c all_ones) all_ones)) (others n (crc_word c all_ones)) t)) e
+    eqb-false (crc_word c all_ones) all_ones (not-true _ (and_l (not (eqb (crc_word c all_ones) all_ones)) (others n (crc_word c all_ones)) t)) e
 never_ones (suc n) c (suc k) t h e =
     never_ones n (crc_word c all_ones) k (and_r (not (eqb (crc_word c all_ones) all_ones)) (others n (crc_word c all_ones)) t) (omega arith) e
 

@@ -1,4 +1,7 @@
 // A host word by the frame's phase (01 Frames; notes 3 and 4).
+
+#![tactic(auto)]
+
 ghost use Rattle.std.specs.Prelude.{◌≡◌, true, false, ◌+◌, ◌≤◌, ◌<◌};
 ghost use Rattle.command.specs.Layouts.{layouts};
 ghost use Rattle.state.specs.Facts.{SendFit, HostFit};

@@ -98,11 +98,11 @@ event_leaves l (Good e) was tx rx = step_leaves (step l was tx rx e) was
 
 -- A LIST OF EVENTS (02 item 6): how many were done, or below 0 a refusal, minus its number (`negsuc n` is minus n + 1)
 abbrev pub list_code : ℕ → Outcome → ℤ
-list_code done Done = pos done
-list_code done NoEvent = negsuc 21
-list_code done ShortResults = negsuc 22
-list_code done WrongStores = negsuc 0
-list_code done BrokenRecord = negsuc 1
+list_code n Done = pos n
+list_code n NoEvent = negsuc 21
+list_code n ShortResults = negsuc 22
+list_code n WrongStores = negsuc 0
+list_code n BrokenRecord = negsuc 1
 
 -- the results too
 pub record CalledList : Type 0 where

@@ -1,5 +1,8 @@
 // The bridge for programs in C: the functions of include/icelichen_bridge.h. They ask nothing of their caller but pointers that are good for their
 // lengths: the bridge is lent in cells, and cells that are no record's are refused as a broken record is.
+
+#![tactic(auto)]
+
 ghost use Rattle.std.specs.Prelude.{◌≡◌, ◌/◌, ◌<◌};
 ghost use Rattle.command.specs.Layouts.{layouts};
 ghost use Rattle.state.specs.Notes.{note_number};

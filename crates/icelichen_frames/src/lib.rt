@@ -1,5 +1,8 @@
 // Host frames for programs in C (02, items 1 and 7): the functions of include/icelichen_frames.h. They ask nothing of their caller but pointers that
 // are good for their lengths.
+
+#![tactic(auto)]
+
 ghost use Rattle.std.specs.Prelude.{◌≡◌};
 ghost use Rattle.crc16.specs.Crc.{start};
 ghost use Rattle.icelichen_frames.specs.Codes.{written_code, status_code, data_code, coded, order_by, frame_for, told_for, spoken_of, frame_in, told_in};
@@ -8,7 +11,7 @@ use frames::{Named, Told, Written};
 use layout::Layout;
 
 // The words that a host speaks: their layout, and where the CRC starts; or a number that says none.
-#[derive(Drop)]
+#[derive(Clone, Copy)]
 enum Spoken {
     Nothing,
     Words { layout: Layout, start: u16 },

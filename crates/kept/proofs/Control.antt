@@ -196,7 +196,7 @@ write_all_tame : (c : Control) (e : Effects) (busy : Bool) (address : ℕ) (vs :
 unfolding write_all with_write
 write_all_tame c e busy address [] t = t
 write_all_tame c e busy address (v ∷ vs) t =
-    write_all_tame c _ busy (address + 1) vs (tame_then c e.control _ t (write_tame e.control busy address v))
+    write_all_tame c (with_write e (write_of e.control busy address v)) busy (address + 1) vs (tame_then c e.control _ t (write_tame e.control busy address v))
 
 -- 4. What the guard of notes 5, 8 and 9 grants.
 

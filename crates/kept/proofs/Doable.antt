@@ -29,6 +29,7 @@ use Rattle.state.specs.declared.Reply.{Reply}
 use Rattle.state.specs.declared.Reply.TheVariants.{Status, Data, Registers, Check}
 use Rattle.state.specs.declared.Sending.{Sending}
 use Rattle.state.specs.declared.Store.{Store}
+use Rattle.state.specs.declared.Store.TheVariants.{Keep}
 use Rattle.queue.proofs.Laws.{has_places}
 
 abbrev Grants : Sending → Store → Granted → Type 0
@@ -65,7 +66,7 @@ module _ (b : Bridge) where
   data_word_doable (Forward crc words ends reads) at w = guard_doable b.sending _ _ _
   data_word_doable (DataRead crc words) at w = tt
   data_word_doable (RegisterWrite crc address count) at w =
-      pick_keeps (Plans b.sending) _ _ _ (λ h. tt) (λ h. clears_doable _ _)
+      pick_keeps (Plans b.sending) _ _ _ (λ h. tt) (λ h. clears_doable (stored b.sending Keep) _)
   data_word_doable (RegisterRead crc address count) at w = tt
   data_word_doable SoftReset at w = tt
 
@@ -84,7 +85,7 @@ module _ (b : Bridge) where
 
   registers_closed_doable : (crc : Bool) (address count : ℕ) → Plans b.sending (registers_closed b crc address count)
   unfolding registers_closed
-  registers_closed_doable crc address count = pick_keeps (Plans b.sending) crc _ _ (λ h. clears_doable _ _) (λ h. tt)
+  registers_closed_doable crc address count = pick_keeps (Plans b.sending) crc _ _ (λ h. clears_doable (stored b.sending Keep) _) (λ h. tt)
 
   reset_closed_doable : Plans b.sending (reset_closed b)
   unfolding reset_closed
@@ -122,7 +123,7 @@ module _ (b : Bridge) where
   cut_doable : (c : Command) (got mine : ℕ) (released : Bool) → mine ≤ b.sending.tx.count → Plans b.sending (cut b (cut_deed c got mine released))
   unfolding cut cut_deed stored ring_after
   cut_doable c got mine released h =
-      pick_keeps (Doable _) released _ _ (λ r. pick_keeps (Doable _) _ _ _ (λ k. tt) (λ k. tt)) (λ r. h)
+      pick_keeps (Doable b.sending) released _ _ (λ r. pick_keeps (Doable b.sending) _ _ _ (λ k. tt) (λ k. tt)) (λ r. h)
 
   released_in_doable : (p : Phase) → mine_of p ≤ b.sending.tx.count → Plans b.sending (released_in b p)
   unfolding released_in mine_of

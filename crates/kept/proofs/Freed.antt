@@ -6,7 +6,7 @@ use Prim.Native.Nat.{ℕ, suc, ◌+◌, ◌-◌, ◌≤◌, ◌<◌}
 use native.Mathlib.Omega.{arith}
 use lib.Dec.{ltb, eqb}
 use lib.ListN.{length, take}
-use borrow.Author.Tests.{ltb-true, ltb-false, lt-ltb, eqb-true, eqb-false, not_true}
+use borrow.Author.Tests.{ltb-true, ltb-false, lt-ltb, eqb-true, eqb-false, not-true}
 use Rattle.base.specs.Pick.{pick, pick_keeps, and_l, and_r}
 use Rattle.rules.specs.Facts.{Standing}
 use Rattle.place_rules.specs.Places.{awaits}
@@ -113,7 +113,7 @@ module _ (q : Queue) (f : QueueFit q) (l : length q.places ≡ 8) (s : Standing 
       where
         unread : (r : Bool) (n : ℕ) → (r || eqb n 0) ≡ true → 0 < n → not r ≡ true → ⊥
         unread r n h k m =
-            let a : r ≡ false = not_true r m in
+            let a : r ≡ false = not-true r m in
             let b : n ≡ 0 = eqb-true n 0 (rw a at h) in omega arith
 
         go : (b : Bool) → ltb 0 (q.begun - 1) ≡ b → 0 < q.begun - 1

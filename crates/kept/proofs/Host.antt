@@ -5,7 +5,7 @@ use mathlib.Core.List.{List, [], ◌∷◌}
 use Prim.Native.Nat.{ℕ, zero, suc, ◌+◌, ◌-◌, ◌≤◌, ◌<◌}
 use native.Mathlib.Omega.{arith}
 use lib.Dec.{ltb, leb, eqb}
-use borrow.Author.Tests.{ltb-true, ltb-false, leb-true, leb-false, eqb-true, eqb-false, not_true, not_false, lt-ltb, le-ltb, le-leb}
+use borrow.Author.Tests.{ltb-true, ltb-false, leb-true, leb-false, eqb-true, eqb-false, not-true, not-false, lt-ltb, le-ltb, le-leb}
 use Rattle.base.specs.Pick.{pick, pick_keeps, and_l, and_r, and_both}
 use Rattle.command.specs.Layouts.{Layouts}
 use Rattle.command.specs.declared.Command.{Command}
@@ -23,6 +23,7 @@ use Rattle.writes.specs.declared.Effects.{Effects}
 use Rattle.host.proofs.Sound.{summed_sound}
 use Rattle.registers.proofs.Laws.{write_sound}
 use Rattle.registers.specs.Registers.{regs_sound, blocking}
+use Rattle.registers.specs.Writing.{write_of}
 use Rattle.registers.specs.declared.Control.{Control}
 use Rattle.state.specs.Frame.{fwd, progress, data_words, mine_of, owed_by, to_come, collect_sound, reply_sound, phase_sound}
 use Rattle.state.specs.Rings.{ring_after}
@@ -100,7 +101,7 @@ module _ (crc : Bool) (words ends : ℕ) (reads : Bool) (got sum mine : ℕ) (re
           → (c && not (eqb words 0 && eqb ends 0)) ≡ false → mine ≡ 0
       go c true k o t q = o
       go c false true o t q = o
-      go true false false o t q = empty (and_l _ _ (not_false _ q)) o
+      go true false false o t q = empty (and_l _ _ (not-false _ q)) o
       go false false false o t q = empty (and_l _ (eqb ends 0) (rw (le-ltb got words h) at t)) o
 
   -- one that its CRC word releases has all of them
@@ -159,7 +160,7 @@ write_all_sound : (e : Effects) (busy : Bool) (address : ℕ) (vs : List ℕ) �
     → regs_sound (write_all e busy address vs).control.regs ≡ true
 unfolding write_all with_write
 write_all_sound e busy address [] s = s
-write_all_sound e busy address (v ∷ vs) s = write_all_sound _ busy (address + 1) vs (write_sound e.control busy address v s)
+write_all_sound e busy address (v ∷ vs) s = write_all_sound (with_write e (write_of e.control busy address v)) busy (address + 1) vs (write_sound e.control busy address v s)
 
 -- 3. What a frame leaves of the sending side.
 
@@ -222,7 +223,7 @@ module _ (b : Bridge) (g : regs_sound b.control.regs ≡ true) where
         begun_goes b.sending crc words ends reads sum (blocking b.control.flags) (not crc && eqb words 0 && ltb 0 ends) r
         (leb-true _ _ (and_l _ (leb ends 127) h))
         (leb-true _ _ (and_r (leb words 4096) _ h))
-        (λ t. (not_true crc (search (and_l, and_r)), eqb-true words 0 (search (and_l, and_r)), ltb-true 0 ends (search (and_l, and_r))))
+        (λ t. (not-true crc (search (and_l, and_r)), eqb-true words 0 (search (and_l, and_r)), ltb-true 0 ends (search (and_l, and_r))))
         (unreleased_waits crc words ends);
     regs = rw (faulted_regs b.control) g;
     ending = λ e. cc;
@@ -251,7 +252,7 @@ module _ (b : Bridge) (g : regs_sound b.control.regs ≡ true) where
       let z : ltb 0 count ≡ true = search (and_l, and_r) in
       let k : leb (address + count) 12 ≡ true = search (and_l, and_r) in
       record {
-        owes = unreleased_owes_none _ _ _ _ (not_true released n);
+        owes = unreleased_owes_none _ _ _ _ (not-true released n);
         owns = eqb-true mine 0 m;
         fits = rw (le-leb (got + 1) count (omega arith), m, n, z, k);
       }
@@ -269,7 +270,7 @@ module _ (b : Bridge) (g : regs_sound b.control.regs ≡ true) where
             (not crc && not at.released && (full || eqb (at.got + 1) words)) r
             (forward_facts (fwd crc words ends reads) at (unfold collect_sound in s))
             h
-            (λ t. (not_true crc (search (and_l, and_r)), not_true at.released (search (and_l, and_r))))
+            (λ t. (not-true crc (search (and_l, and_r)), not-true at.released (search (and_l, and_r))))
             (λ t k. unreleasing crc at.released full (at.got + 1) words (omega arith) t k);
         regs = rw (faulted_regs b.control) g;
         ending = λ e. cc;
@@ -279,7 +280,7 @@ module _ (b : Bridge) (g : regs_sound b.control.regs ≡ true) where
       let m : eqb at.mine 0 ≡ true = unfold collect_sound in search (and_l, and_r) in
       let n : not at.released ≡ true = unfold collect_sound in search (and_l, and_r) in
       register_word_rules crc address at.got _ w
-      (rules_none b.sending _ _ r (unreleased_owes_none _ _ _ _ (not_true at.released n)) (eqb-true at.mine 0 m))
+      (rules_none b.sending _ _ r (unreleased_owes_none _ _ _ _ (not-true at.released n)) (eqb-true at.mine 0 m))
       (bare_write crc address count at.got at.crc at.mine at.released at.blocked h s)
   data_word_rules (RegisterRead crc address count) at w r s h = absurd (omega arith)
   data_word_rules SoftReset at w r s h = absurd (omega arith)

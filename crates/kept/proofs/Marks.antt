@@ -4,7 +4,7 @@ use mathlib.Core.Path.{◌≡◌, refl, sym, ◌∙◌}
 use mathlib.Core.Bool.{Bool, true, false, not, ◌&&◌, ◌||◌}
 use Prim.Native.Nat.{ℕ, ◌<◌}
 use lib.ListN.{length}
-use borrow.Author.Tests.{ltb-true, not_true}
+use borrow.Author.Tests.{ltb-true, not-true}
 use Rattle.base.specs.Pick.{pick_keeps, and_l, and_r}
 use Rattle.base.specs.Truth.{or_end}
 use Rattle.writes.specs.Writes.{is_quiet}
@@ -51,7 +51,7 @@ heard_carried : (belongs storing u v s t x y : Bool) → (u ≡ true → (v ≡ 
 heard_carried true true u v s t x y a c h =
     let e = a (and_l u (s && not x) h) in
     let k : s ≡ true = and_l s (not x) (and_r u (s && not x) h) in
-    let m : x ≡ false = not_true x (and_r s (not x) (and_r u (s && not x) h)) in
+    let m : x ≡ false = not-true x (and_r s (not x) (and_r u (s && not x) h)) in
     rw (e.0, e.1, k, clear y c m)
   where
     clear : (y : Bool) → (y ≡ true → x ≡ true) → x ≡ false → y ≡ false

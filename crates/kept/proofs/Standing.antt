@@ -7,7 +7,7 @@ use native.Mathlib.Omega.{arith}
 use lib.Dec.{ltb, eqb}
 use lib.ListN.{length}
 use lib.Seq.{get_or-set_same, get_or-set_other}
-use borrow.Author.Tests.{ltb-true, ltb-false, lt-ltb, eqb-true, eqb-false, ne_eqb, not_true}
+use borrow.Author.Tests.{ltb-true, ltb-false, lt-ltb, eqb-true, eqb-false, ne_eqb, not-true}
 use Rattle.base.specs.Pick.{and_l, and_r}
 use Rattle.base.specs.Truth.{never, none_left, and_none}
 use Rattle.rules.specs.Facts.{Standing}
@@ -31,7 +31,7 @@ awaits_ended p h = eqb-true _ _ (search (and_l, and_r))
 pub awaits_undone : (p : Place) → awaits p ≡ true → is_done p ≡ false
 awaits_undone p h =
     let s : p.sent ≡ true = search (and_l, and_r) in
-    let r : p.read ≡ false = not_true _ (search (and_l, and_r)) in
+    let r : p.read ≡ false = not-true _ (search (and_l, and_r)) in
     let w : 0 < p.words = ltb-true _ _ (search (and_l, and_r)) in
     let z : eqb p.words 0 ≡ false = ne_eqb p.words 0 (λ e. absurd (omega arith)) in
     rw (s, r, z)
@@ -49,7 +49,7 @@ unsent_undone : (p : Place) → p.sent ≡ false → is_done p ≡ false
 unsent_undone p s = rw s
 
 pub waits_unsent : (p : Place) → waits p ≡ true → p.sent ≡ false
-waits_unsent p h = not_true _ (search (and_l, and_r))
+waits_unsent p h = not-true _ (search (and_l, and_r))
 
 -- one that waits without words has ENDs
 pub waits_ends : (p : Place) → waits p ≡ true → p.words ≡ 0 → 0 < p.ends

@@ -120,9 +120,9 @@ word_on i w j e k h g =
 pub sixteen : (i w : ℕ) (e : Ear) (g : InWord i w 16 e) → e ≡ Group i w 16 g.run
 sixteen i w e g = let d : w / 1 ≡ w = omega arith in g.is ∙ ap (λ (x : ℕ). Group i x 16 g.run) d
 
-pub word_end : (i w : ℕ) (e : Ear) → InWord i w 16 e
+pub word_end_lem : (i w : ℕ) (e : Ear) → InWord i w 16 e
     → hear e (piece_bit (WordPiece w) 16) ≡ heard (Group (next_number i) 0 0 (val (check_bit w))) (Word w)
-word_end i w e g =
+word_end_lem i w e g =
     let d : w / 1 ≡ w = omega arith in
     let c : piece_bit (WordPiece w) 16 ≡ check_bit w = unfold piece_bit word_bit pick in refl in
     rw (sixteen i w e g, c) (hear_check i w g.run (λ q. g.stop (omega arith) (rw d q)))

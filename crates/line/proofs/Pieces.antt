@@ -15,7 +15,7 @@ use Rattle.line.specs.declared.Ear.{Ear}
 use Rattle.line.specs.declared.Ear.TheVariants.{Quiet, Group}
 use Rattle.line.specs.Format.{check_bit, piece_length, piece_bit}
 use Rattle.line.specs.Reader.{run_on, shift_in, last_number, next_number, at_check, in_group, hear, Reading, collect, read_bit}
-use Rattle.line.proofs.Hears.{run_le, hear_in, InWord, WordOn, word_none, word_on, word_end}
+use Rattle.line.proofs.Hears.{run_le, hear_in, InWord, WordOn, word_none, word_on, word_end_lem}
 
 -- The number of the word that follows these in their command.
 unfoldable pub number_of : List ℕ → ℕ
@@ -61,11 +61,11 @@ Fits EndPiece p = Unit {0}
 
 module _ (finished : List (List ℕ)) (words : List ℕ) where
   -- A bit that does not complete its group.
-  in_group : (i v c n : ℕ) (b : Bool) → c < 16 → n ≤ suc c
+  in_group_lem : (i v c n : ℕ) (b : Bool) → c < 16 → n ≤ suc c
       → read_bit (record { finished = finished; words = words; ear = Group i v c n }) b
       ≡ record { finished = finished; words = words; ear = Group i (shift_in v b) (suc c) (run_on n b) }
   unfolding read_bit collect
-  in_group i v c n b h k = rw (hear_in i v c n b h k)
+  in_group_lem i v c n b h k = rw (hear_in i v c n b h k)
 
   end_within : (b : Bool) → up_to (at (within finished words b)) (piece_bit EndPiece) 18 ≡ at (out (finished ++ (words ∷ [])))
   unfolding up_to at piece_bit read_bit hear in_group at_check run_on shift_in collect val pick
@@ -94,7 +94,7 @@ module _ (finished : List (List ℕ)) (words : List ℕ) (w : ℕ) (fits : w < 6
   unfolding up_to at read_bit collect
   word_within =
       let i : Reads (up_to (at (within finished words b)) (piece_bit (WordPiece w)) 16) finished words w 16 = word_bits_lem 16 (omega arith) in
-      rw (i.is, word_end (number_of words) w i.ear i.in_word, number_on words w) refl
+      rw (i.is, word_end_lem (number_of words) w i.ear i.in_word, number_on words w) refl
 
 end_out : (finished : List (List ℕ)) (n : ℕ) → up_to (at (out finished)) (piece_bit EndPiece) n ≡ at (out finished)
 unfolding up_to at piece_bit read_bit hear collect pick
@@ -151,7 +151,7 @@ module _ (finished : List (List ℕ)) (words : List ℕ) (b : Bool) where
           record {
             value = shift_in i.value (f n);
             run = run_on i.run (f n);
-            is = rw (i.is, in_group finished words (number_of words) i.value n i.run (f n) h i.few);
+            is = rw (i.is, in_group_lem finished words (number_of words) i.value n i.run (f n) h i.few);
             few = omega (arith, run_le i.run (f n), i.few);
           }
 

@@ -21,7 +21,7 @@ use Rattle.line.specs.declared.Found.TheVariants.{Nothing, Word}
 use Rattle.line.specs.Format.{check_bit, word_bits, end_bits, words_bits, Segment, idle, command, encode, commands_of, Words, Sixteen, word_bit, piece_bit}
 use Rattle.line.specs.Reader.{heard, run_on, shift_in, last_number, next_number, at_check, in_group, hear, collect, read_bit, read_bits, read_line}
 use Rattle.line.specs.Damage.{wrong_bits, damaged, OneBit, founds, numbers_in, numbers_of, bit_before, bit_behind, passes_for_end, EndedThere}
-use Rattle.line.proofs.Hears.{InWord, WordOn, word_none, word_on, word_end, word_wrong}
+use Rattle.line.proofs.Hears.{InWord, WordOn, word_none, word_on, word_end_lem, word_wrong}
 use Rattle.line.proofs.Pieces.{number_of, number_on, within, at}
 use Rattle.line.proofs.Trip.{tabulate, read_cons, read_append, read_start, read_words, read_segments}
 
@@ -65,7 +65,7 @@ module _ (i w : ℕ) (v : Bool) (fits : w < 65536) where
   unfolding word_bits tabulate piece_bit word_bit high_first pick
   past_word =
       let p = past_bits 16 (omega arith) in
-      past_both p.past (past_bit p.ear _ (check_bit w) (Word w) (word_end i w p.ear p.in_word) (λ fs. unfold numbers_in in refl))
+      past_both p.past (past_bit p.ear _ (check_bit w) (Word w) (word_end_lem i w p.ear p.in_word) (λ fs. unfold numbers_in in refl))
 
   -- A word that is not all 1s, with its check bit changed.
   wrong_word : (t : List Bool) → w ≢ 65535 → Answers (Group i 0 0 (val v)) (wrong_bits w ++ t) i

@@ -1,11 +1,14 @@
 // The CCSI line (01 The line; 001 7.3.2): the pieces that a sender clocks out bit by bit, and the one reader of bits.
+
+#![tactic(auto)]
+
 ghost use Rattle.std.specs.Prelude.{◌≡◌, ◌≤◌};
 ghost use Rattle.base.specs.Bits.{val};
 ghost use Rattle.line.specs.Format.{piece_length, piece_bit, word_bit};
 ghost use Rattle.line.specs.Reader.{run_on, next_number, at_check, in_group, in_lost, hear as hear_of};
 
 // What a line is made of. A pause has no bits.
-#[derive(Drop)]
+#[derive(Clone, Copy)]
 pub enum Piece {
     Pause,
     StartBit,
@@ -15,7 +18,7 @@ pub enum Piece {
 
 // What the reader is in: outside a command; in a group of so many bits, which is this command's word `number` (02 item 4); discarding after a
 // check error. `ones` counts the 1s in a row.
-#[derive(Drop)]
+#[derive(Clone, Copy)]
 pub enum Ear {
     Quiet,
     Group {
@@ -30,7 +33,7 @@ pub enum Ear {
 }
 
 // What a bit completes. `CheckError` says which word of its command went bad. `Over` is the END of a command that had a check error.
-#[derive(Drop)]
+#[derive(Clone, Copy)]
 pub enum Found {
     Nothing,
     Start,
@@ -40,7 +43,7 @@ pub enum Found {
     Over,
 }
 
-#[derive(Drop)]
+#[derive(Clone, Copy)]
 pub struct Heard {
     pub ear: Ear,
     pub found: Found,

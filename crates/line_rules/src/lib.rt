@@ -1,5 +1,8 @@
 // The record rules of the sender and of the reader, as a test: the sender's piece with the place under way, the marks of the command being
 // read. It asks nothing of the state.
+
+#![tactic(auto)]
+
 ghost use Rattle.std.specs.Prelude.{◌≡◌};
 ghost use Rattle.base.specs.Pick.{pick};
 ghost use Rattle.line_rules.specs.Line.{end_sound, piece_sound, sender_sound, ear_sound, is_unread, heard_marks, marks_sound, reader_sound};

@@ -1,4 +1,7 @@
 // The records of a list and the bytes of their results (02 item 6).
+
+#![tactic(auto)]
+
 ghost use Rattle.std.specs.Prelude.{◌≡◌, ◌+◌, ◌*◌, ◌≤◌, length};
 ghost use Rattle.state.specs.Notes.{note_number};
 ghost use Rattle.listing.specs.Records.{is_good, event_of, record_at, is_event, event_at, all_events};

@@ -1,5 +1,8 @@
 // Runs of quiet ticks, over the few fields that such a tick moves: the bit under way goes on, or the line is at rest, and the reader completes
 // nothing. What they do is what `turn` says of them, tick by tick.
+
+#![tactic(auto)]
+
 ghost use Rattle.std.specs.Prelude.{◌≡◌, ◌≤◌};
 ghost use Rattle.state.specs.Facts.{HostFit};
 ghost use Rattle.lull.specs.Lull.{hot_of, rests_in, reach as reach_of, gone_on, quiet_by, next_hot, quiet_bit, laid_sender, laid_clock, laid as laid_of};
@@ -8,7 +11,7 @@ use line::{Ear, Piece};
 use state::{Bridge, Clock, Sender};
 
 // What a quiet tick moves.
-#[derive(Drop)]
+#[derive(Clone, Copy)]
 pub struct Hot {
     pub ear: Ear,
     pub gone: u16,
@@ -17,7 +20,7 @@ pub struct Hot {
 }
 
 // A tick: whether it is quiet, and what it leaves.
-#[derive(Drop)]
+#[derive(Clone, Copy)]
 pub struct Quiet {
     pub passes: bool,
     pub hot: Hot,

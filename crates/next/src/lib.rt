@@ -1,4 +1,7 @@
 // What a tick does (01 The line): a value, chosen before anything is done; and the bit that goes out.
+
+#![tactic(auto)]
+
 ghost use Rattle.std.specs.Prelude.{◌≡◌, ltb};
 ghost use Rattle.base.specs.Pick.{pick};
 ghost use Rattle.state.specs.Facts.{QueueFit, SendFit};
@@ -12,7 +15,7 @@ use state::{Queue, Sender, Sending};
 
 // What a tick does: the next bit of the piece under way; a word, an END begun; no word in TX; a command begun, with words or of ENDs alone;
 // nothing.
-#[derive(Drop)]
+#[derive(Clone, Copy)]
 pub enum Next {
     GoOn,
     LoadWord,

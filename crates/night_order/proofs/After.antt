@@ -16,7 +16,7 @@ use Rattle.script.specs.Script.{value_of, record_of}
 use Rattle.script.specs.declared.Record.{Record}
 use Rattle.script.specs.declared.Record.TheVariants.{Good, Bad}
 use Rattle.whole_night.specs.Night.{Told, events, wrong, before, events_in, bytes_in, End, all_done, night}
-use Rattle.whole_night.proofs.Theorems.{four_each, all_done}
+use Rattle.whole_night.proofs.Theorems.{four_each, all_done_lem}
 use Rattle.night_order.specs.Line.{sout_in}
 use Rattle.night_order.specs.After.{left, written, AsOne, NightAfterNight, CutAnywhere}
 use Rattle.night_order.proofs.Line.{bits_in_results, end_append, bytes_append, sout_append}
@@ -107,11 +107,11 @@ pub night_after_night : NightAfterNight
 night_after_night c w first second s t u es more told Told-more room room-more room-both =
     let o : Obeys c = obeys_whole c w in
     let v : Obeys (end_of layouts c es) = run_obeys layouts layouts_fit c es o in
-    let a = all_done c first s es told (omega (arith, room)) o.stores (facts_sound _ o.rules) in
+    let a = all_done_lem c first s es told (omega (arith, room)) o.stores (facts_sound _ o.rules) in
     when_so c es more s t u _ _ _ a
     (ap (λ (x : End). night layouts (left x) second t) a
-    ∙ all_done (end_of layouts c es) second t more Told-more (omega (arith, room-more)) v.stores (facts_sound _ v.rules))
-    (all_done c (first ++ second) u (es ++ more) (told_append first second es more told Told-more) (omega (arith, room-both)) o.stores
+    ∙ all_done_lem (end_of layouts c es) second t more Told-more (omega (arith, room-more)) v.stores (facts_sound _ v.rules))
+    (all_done_lem c (first ++ second) u (es ++ more) (told_append first second es more told Told-more) (omega (arith, room-both)) o.stores
     (facts_sound _ o.rules))
 
 pub cut_anywhere : CutAnywhere

@@ -19,7 +19,7 @@ use Rattle.order.proofs.Tests.{are_premises, is_all_sent}
 use Rattle.script.specs.Script.{power_record, tick_record, release_record, record_of}
 use Rattle.listing.specs.Results.{bit_byte}
 use Rattle.whole_night.specs.Night.{events, before, events_in, bytes_in, End, tested, judged, night}
-use Rattle.whole_night.proofs.Theorems.{all_done}
+use Rattle.whole_night.proofs.Theorems.{all_done_lem}
 use Rattle.night_order.specs.Line.{sout_in}
 use Rattle.night_order.specs.InOrder.{NightInOrder}
 use Rattle.night_order.proofs.InOrder.{in_order_of_a_night}
@@ -60,7 +60,7 @@ unfolding meets told
 sent =
     let o = power_obeys layouts layouts_fit true Ours (replicate 512 0) (replicate 256 0) zeros in
     subst (λ (n : End). AllSent n.listed.state.sending)
-    (sym (all_done from records (replicate 176 0) told says (omega arith) zeros (facts_sound _ o.rules))) (is_all_sent _ refl)
+    (sym (all_done_lem from records (replicate 176 0) told says (omega arith) zeros (facts_sound _ o.rules))) (is_all_sent _ refl)
 
 shown : (read_line (sout_in told answer.results)).finished ≡ (0xAAF0 ∷ []) ∷ []
 unfolding meets told

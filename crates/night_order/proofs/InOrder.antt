@@ -16,7 +16,7 @@ use Rattle.bridge.proofs.Reached.{Obeys, power_obeys}
 use Rattle.order.specs.Demand.{Faithful}
 use Rattle.order.proofs.Closed.{demand_3, demand_3_as_asked, demand_3_script_as_asked}
 use Rattle.whole_night.specs.Night.{events, events_in, all_done, night}
-use Rattle.whole_night.proofs.Theorems.{all_done}
+use Rattle.whole_night.proofs.Theorems.{all_done_lem}
 use Rattle.night_order.specs.InOrder.{NightInOrder, InOrderOfANight, InOrderAsAsked, InOrderOfAScript}
 use Rattle.night_order.proofs.Line.{bits_in_results}
 
@@ -37,7 +37,7 @@ module _ (c : Config) (es : List Event) (s : List ℕ) (f : Faithful layouts c e
   pub of_the_run : (records : List ℕ) → events_in records ≡ events es → length es * 4 ≤ length s → Obeys c
       → NightInOrder c es (night layouts c records s)
   of_the_run records told room o =
-      subst (NightInOrder c es) (sym (all_done c records s es told (omega (arith, room)) o.stores (facts_sound c.bridge o.rules)))
+      subst (NightInOrder c es) (sym (all_done_lem c records s es told (omega (arith, room)) o.stores (facts_sound c.bridge o.rules)))
       when_done
 
 module _ (good : Bool) (layout : Layout) (tx rx : List ℕ) (stores : RightStores tx rx) where

@@ -1,5 +1,8 @@
 // The parts of a list of events (02 item 6): a run of events of one kind, with a copy of the record that only the parts change. Each part is
 // so many `turn`s.
+
+#![tactic(auto)]
+
 mod bytes;
 mod clocking;
 mod moving;
@@ -16,7 +19,7 @@ use events::Event;
 use state::{Bridge, Frame, Note};
 
 // The state after a part, and the number of the event that follows it.
-#[derive(Drop)]
+#[derive(Clone, Copy)]
 pub struct Part {
     pub bridge: Bridge,
     pub k: usize,

@@ -7,7 +7,7 @@ ghost use Rattle.night_parts.specs.Moving.{no_move, release_move, reply_move, wo
 use state::{Clock, Phase, Reply};
 
 // Whether it is such an event, the word that it answers, and the phase that it leaves.
-#[derive(Drop)]
+#[derive(Clone, Copy)]
 pub struct Move {
     pub moves: bool,
     pub sdo: u16,

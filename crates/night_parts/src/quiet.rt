@@ -8,7 +8,7 @@ use lull::Hot;
 use state::Bridge;
 
 // The ticks done: up to which record, what they moved, and whether the line was at rest.
-#[derive(Drop)]
+#[derive(Clone, Copy)]
 pub struct Ran {
     pub k: usize,
     pub rests: bool,

@@ -33,7 +33,7 @@ pub record Open (l : Layouts) (spoken : List Layout) (crc : Bool) (most ends : �
   pub word : ℕ
   pub dropped : List ℕ
   pub closed_are : Framed l spoken g.closed before
-  pub is_forward : l.decode (get_or spoken (length before) Ours) word ≡ Forward crc most ends reads
+  pub forward_is : l.decode (get_or spoken (length before) Ours) word ≡ Forward crc most ends reads
   pub sent_are : hs ≡ before ++ (word ∷ (g.words ++ dropped))
   pub few : length g.words ≤ got
   pub due : got ≤ most
@@ -69,7 +69,7 @@ module _ (l : Layouts) (spoken : List Layout) (g : Log) (hs : List ℕ) where
   framed_open crc most ends reads got blocked h true =
       rw (h.sent_are, ← (append_assoc h.before (h.word ∷ g.words) h.dropped))
       (on l spoken _ _ h.dropped
-      (frame g.closed h.before h.word g.words crc most ends reads h.closed_are h.is_forward (omega (arith, h.few, h.due))))
+      (frame g.closed h.before h.word g.words crc most ends reads h.closed_are h.forward_is (omega (arith, h.few, h.due))))
   framed_open crc most ends reads got blocked h false = rw h.sent_are (on l spoken _ h.before _ h.closed_are)
 
   pub framed_shut : Shut l spoken g hs → (accepted : Bool) → accepted ≡ false → Framed l spoken (joined accepted g.closed g.words) hs
@@ -130,7 +130,7 @@ module _ (l : Layouts) (spoken : List Layout) (g : Log) (hs : List ℕ) where
         word = h.word;
         dropped = h.dropped;
         closed_are = h.closed_are;
-        is_forward = h.is_forward;
+        forward_is = h.forward_is;
         sent_are = h.sent_are;
         few = h.few;
         due = h.due;

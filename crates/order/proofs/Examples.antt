@@ -45,7 +45,7 @@ use Rattle.bridge.specs.Runs.{Config, RightStores, faults, out_of, next, end_of,
 use Rattle.command.specs.Layouts.{layouts, start_by}
 use Rattle.events.specs.declared.Event.{Event}
 use Rattle.events.specs.declared.Event.TheVariants.{Power, Word, Release, Tick, Clock as ClockReading}
-use Rattle.order.proofs.Order.{in_order, all_sent}
+use Rattle.order.proofs.Order.{in_order, all_sent as all_sent_lem}
 use Rattle.order.proofs.Closed.{demand_3_script}
 use Rattle.order.proofs.Tests.{are_premises, is_all_sent}
 
@@ -88,7 +88,7 @@ shows_all : (es : List Event) → meets es ≡ true → sends_all es ≡ true
     → (read_line (sout_of layouts from es)).finished ≡ accepted_in layouts from es
 unfolding meets sends_all
 shows_all es h d =
-    all_sent layouts layouts_fit true Ours (replicate 512 0) (replicate 256 0) zeros es
+    all_sent_lem layouts layouts_fit true Ours (replicate 512 0) (replicate 256 0) zeros es
     (are_premises layouts from es h) (is_all_sent _ d)
 
 -- Two call-ups that land together: FWD_WR_CRC of one word, then of two, before a bit is sent.

@@ -154,7 +154,7 @@ module _ (l : Layouts) (spoken : List Layout) (b : Bridge) (g : Log) (hs : List 
           word = w;
           dropped = [];
           closed_are = h.closed_are;
-          is_forward = f;
+          forward_is = f;
           sent_are = rw h.no_words s;
           few = rw h.no_words (omega arith);
           due = omega arith;
@@ -190,7 +190,7 @@ module _ (l : Layouts) (spoken : List Layout) (b : Bridge) (g : Log) (hs : List 
             word = h.word;
             dropped = h.dropped ++ (w ∷ []);
             closed_are = h.closed_are;
-            is_forward = h.is_forward;
+            forward_is = h.forward_is;
             sent_are = rw h.sent_are (glue h.before g.words h.dropped h.word w);
             few = omega (arith, h.few);
             due = omega arith;
@@ -209,7 +209,7 @@ module _ (l : Layouts) (spoken : List Layout) (b : Bridge) (g : Log) (hs : List 
             word = h.word;
             dropped = [];
             closed_are = h.closed_are;
-            is_forward = h.is_forward;
+            forward_is = h.forward_is;
             sent_are =
                 rw (h.sent_are, append-nil (g.words ++ (w ∷ [])))
                 (glue h.before g.words h.dropped h.word w ∙ rw (h.all_stored u) refl);

@@ -7,7 +7,7 @@ use Prim.Native.Nat.{ℕ, zero, suc, ◌+◌, ◌≤◌, ◌<◌}
 use native.Mathlib.Omega.{arith}
 use lib.Dec.{ltb, leb, eqb}
 use lib.ListN.{length, length-append}
-use borrow.Author.Tests.{ltb-true, ltb-false, eqb-true, eqb-false, not_true}
+use borrow.Author.Tests.{ltb-true, ltb-false, eqb-true, eqb-false, not-true}
 use Rattle.base.specs.Pick.{pick, pick_keeps, and_l, and_r}
 use Rattle.command.specs.Layouts.{Layouts}
 use Rattle.command.specs.declared.Command.{Command}
@@ -112,7 +112,7 @@ module _ (b : Bridge) (g : Log) (S K : List ℕ) (spent : Spent b S K) where
     forward_begun_lem crc k ends reads sum blocked c a =
         guard_grants (λ (r : Granted). GoesBy b.sending g S K (forwarded b (fwd crc k ends reads) (just_begun sum blocked) r))
         _ _ Keep _ _ blocked c
-        (λ room t u. begun_queued b.sending g S K crc k ends reads sum blocked c h u (not_true crc (and_l (not crc) _ (and_l _ (ltb 0 ends) t))))
+        (λ room t u. begun_queued b.sending g S K crc k ends reads sum blocked c h u (not-true crc (and_l (not crc) _ (and_l _ (ltb 0 ends) t))))
         (λ room t. begun_pending b.sending g S K crc k ends reads sum blocked c h) a.no_fault
 
     begins : (command : Command) (sum : ℕ) → blocking b.control.flags ≡ false → Good b g S K (opened b command sum)
@@ -136,7 +136,7 @@ module _ (b : Bridge) (g : Log) (S K : List ℕ) (spent : Spent b S K) where
         _ _ (Put w) _ _ blocked c
         (λ room t u.
         word_queued b.sending g S K crc words ends reads sum blocked c got w small (room refl) due mine h u
-        (not_true crc (and_l (not crc) true (and_l (not crc && true) _ t))))
+        (not-true crc (and_l (not crc) true (and_l (not crc && true) _ t))))
         (λ room t. word_pending b.sending g S K crc words ends reads sum blocked c got w small (room refl) due mine h (later crc t))
         a.no_fault
       where

@@ -2,7 +2,7 @@
 use mathlib.Core.Path.{◌≡◌, refl}
 use mathlib.Core.Bool.{Bool, true, false, not, ◌&&◌, ◌||◌}
 use mathlib.Core.List.{List, [], ◌∷◌}
-use borrow.Author.Tests.{ltb-true, eqb-true, not_true}
+use borrow.Author.Tests.{ltb-true, eqb-true, not-true}
 use Rattle.base.specs.Pick.{and_l, and_r}
 use Rattle.command.specs.Layouts.{Layouts}
 use Rattle.state.specs.Sending.{idle}
@@ -42,7 +42,7 @@ module _ (l : Layouts) where
       let a = three (typed e) (not (faults (out_of l c e).answer.note)) _ h in
       record {
         typed = is_typed e a.0;
-        no_fault = not_true _ a.1;
+        no_fault = not-true _ a.1;
         no_loss = λ k. is_all_sent _ (either (losing l c e) _ a.2 k);
       }
 

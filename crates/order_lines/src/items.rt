@@ -13,7 +13,7 @@ pub type Words = [u16; 4096];
 
 // How many words were read, where the fields end, where the last item stands (the name where there is none), and why no more could be read: 0, or
 // a reason.
-#[derive(Drop)]
+#[derive(Clone, Copy)]
 pub struct Items {
     pub words: usize,
     pub fields: usize,

@@ -1,4 +1,7 @@
 // A line of text as an order of the host (02 item 1): a layout, a command's name, its fields, words. What it means is `frames_main`'s.
+
+#![tactic(auto)]
+
 mod items;
 mod names;
 mod text;

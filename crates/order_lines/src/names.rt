@@ -3,7 +3,7 @@ use crate::text::{OTHER, Text, find, which};
 
 // A command's number, from 15 on where no command has this name, where its name stands, whether an answer to it is read, and the layout (02 item 7): 0
 // ours, 1 `makers`, 2 `xmodem`, the maker's with SPICTRL's bit 2, SPI_CRC_ALG, set before.
-#[derive(Drop)]
+#[derive(Clone, Copy)]
 pub struct Name {
     pub command: usize,
     pub from: usize,

@@ -1,4 +1,7 @@
 // The bridge's variants as numbers, and numbers side by side: what a record in cells is made of (`cells`).
+
+#![tactic(auto)]
+
 mod numbers;
 
 ghost use Rattle.std.specs.Prelude.{◌≡◌};
@@ -12,7 +15,7 @@ use registers::Mode;
 use state::{Phase, Reply};
 
 // A variant's number, and those that it holds.
-#[derive(Drop)]
+#[derive(Clone, Copy)]
 pub struct Parts {
     pub kind: u16,
     pub a: u16,

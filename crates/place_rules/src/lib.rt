@@ -1,4 +1,7 @@
 // The record rules of the queue, as a test: how many places there are, and each by where it stands. It asks nothing of the state.
+
+#![tactic(auto)]
+
 ghost use Rattle.std.specs.Prelude.{◌≡◌, ◌≤◌, ◌<◌, ◌+◌};
 ghost use Rattle.state.specs.Queue.{waiting, words_of, is_done};
 ghost use Rattle.place_rules.specs.Places.{place_sound, is_fresh, waits as waits_of, awaits as awaits_of, role_sound, places_sound, queue_sound};

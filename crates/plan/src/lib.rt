@@ -1,5 +1,8 @@
 // A host's plan and how it is carried out (01 Frames; Registers, "Transmit clear", "RX clear", "Soft reset"; The line, DRDY). A rule of frames
 // answers a plan; it is carried out in one place.
+
+#![tactic(auto)]
+
 ghost use Rattle.std.specs.Prelude.{◌≡◌, true, false, ◌||◌, ltb, eqb};
 ghost use Rattle.registers.specs.Raising.{raised_in};
 ghost use Rattle.plan.specs.Plan.{plain as plain_of, with_reader, cleared_away, received as received_of, settled as settled_of, concluded as concluded_of, awaits_command, is_collecting, xmodem_after, marked as marked_of, performed as performed_of};
@@ -16,7 +19,7 @@ use state::{Bridge, Clock, Deed, Frame, Note, Phase, Reader, Receiving, Reply, S
 
 // What a plan does to the receiving side: nothing; the oldest word read; the storing of the present command ended (a read of empty RX); RX
 // clear; soft reset.
-#[derive(Drop)]
+#[derive(Clone, Copy)]
 pub enum Receive {
     LeaveRx,
     PopRx,
@@ -26,7 +29,7 @@ pub enum Receive {
 }
 
 // What a word or a release of chip select does. `status`: STATUS is answered, taken after all effects.
-#[derive(Drop)]
+#[derive(Clone, Copy)]
 pub struct Plan {
     pub phase: Phase,
     pub held: [u16; 12],

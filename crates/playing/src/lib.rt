@@ -1,5 +1,8 @@
 // What the bench prints of a script (01 The bench program): its head, and its records in parts of any size. Events are done in groups, a list call
 // each (02 item 6). The program over it only reads and writes.
+
+#![tactic(auto)]
+
 ghost use Rattle.std.specs.Prelude.{◌≡◌, false, ◌+◌, ◌*◌, ◌/◌, ◌≤◌, length};
 ghost use Rattle.std.proofs.lemmas.List.Edits.{sets};
 ghost use Rattle.command.specs.Layouts.{layouts};
@@ -11,7 +14,7 @@ use script::Line;
 use state::Bridge;
 
 // The state after a part of a script, the bytes that it printed, and whether the script goes on.
-#[derive(Drop)]
+#[derive(Clone, Copy)]
 pub struct Part {
     pub bridge: Bridge,
     pub length: usize,

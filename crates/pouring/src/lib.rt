@@ -1,5 +1,8 @@
 // Runs of host words over the few fields that they move: a forward's data words that are stored and release nothing, and words that leave the
 // frame as it is. What they do is what `turn` says of them, word by word.
+
+#![tactic(auto)]
+
 ghost use Rattle.std.specs.Prelude.{◌≡◌, true, List, ℕ, ◌+◌, ◌<◌, ◌≤◌, length};
 ghost use Rattle.state.specs.Facts.{HostFit};
 ghost use Rattle.listing.specs.Run.{Ahead};
@@ -10,7 +13,7 @@ use command::Command;
 use state::{Bridge, Frame, Note, Phase};
 
 // What such words move.
-#[derive(Drop)]
+#[derive(Clone, Copy)]
 pub struct Stream {
     pub got: u16,
     pub crc: u16,
@@ -20,7 +23,7 @@ pub struct Stream {
 
 // What a run of data words keeps: the forward's words, whether it is named _CRC, and whether it is released. `flows`: it is a forward that is
 // not blocked.
-#[derive(Drop)]
+#[derive(Clone, Copy)]
 pub struct Bed {
     pub flows: bool,
     pub words: u16,
@@ -29,7 +32,7 @@ pub struct Bed {
 }
 
 // The words done: up to which record, and what they moved.
-#[derive(Drop)]
+#[derive(Clone, Copy)]
 pub struct Stretch {
     pub k: usize,
     pub stream: Stream,

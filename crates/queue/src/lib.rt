@@ -1,4 +1,7 @@
 // The queue of eight places (01 The line).
+
+#![tactic(auto)]
+
 ghost use Rattle.std.specs.Prelude.{◌≡◌, ◌≤◌, ◌<◌};
 ghost use Rattle.state.specs.Facts.{QueueFit};
 ghost use Rattle.state.specs.Queue.{place_at, new_place, places_of, in_use, lacks as lacks_of, speaking, under_way, moved as moved_of, freed as freed_one, freed_of as freed_part, claimed as claimed_of, returned as returned_of};

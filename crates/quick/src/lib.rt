@@ -1,5 +1,8 @@
 // The short way for most ticks: those that move only the bit under way, or find the line at rest. Nothing is begun, taken, sent or read, so
 // no cell, place or flag changes. What they do is what `turn` says of them.
+
+#![tactic(auto)]
+
 ghost use Rattle.std.specs.Prelude.{◌≡◌, true, List, ℕ, ◌≤◌};
 ghost use Rattle.base.specs.Pick.{pick};
 ghost use Rattle.command.specs.Layouts.{layouts};

@@ -1,4 +1,7 @@
 // What a tick hears (01 The line, "The reader (SIN)").
+
+#![tactic(auto)]
+
 ghost use Rattle.std.specs.Prelude.{◌≡◌, true, ◌≤◌, ◌<◌};
 ghost use Rattle.state.specs.Facts.{QueueFit, RingFit};
 ghost use Rattle.reader.specs.Reader.{with_ear, began as began_of, word_read, error_read, end_read, word_taken, taken, at_end, ended as ended_of, taken_by, tick_reader};
@@ -8,7 +11,7 @@ use registers::{Flag, Flags};
 use state::{Queue, Reader, Receiving, Returned, Store};
 
 // `full`: note 14. `ended`: END came of a command that stored a word.
-#[derive(Drop)]
+#[derive(Clone, Copy)]
 pub struct Taken {
     pub receiving: Receiving,
     pub queue: Queue,

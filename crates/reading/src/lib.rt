@@ -1,4 +1,7 @@
 // What each address reads (01 Registers; 001 7.6). The definitions are `registers`'s.
+
+#![tactic(auto)]
+
 ghost use Rattle.std.specs.Prelude.{◌≡◌, ◌^◌, ◌≤◌, ◌<◌, min};
 ghost use Rattle.base.specs.Bits.{flag as flag_of};
 ghost use Rattle.registers.specs.Registers.{mode_number, unmasked as unmasked_of, unhidden as unhidden_of, err as err_of, status_of, ifst_of, fifo_of, read_of};

@@ -1,5 +1,8 @@
 // A record as numbers, in the order of the columns of crates/refusals/stdin: made of them, told as them, and compared with them. `refusals` and
 // `states` use it. A variant is its number in the order of its type, and a bool is 0 or 1: `is` of `built` tells numbers that are no record's.
+
+#![tactic(auto)]
+
 ghost use Rattle.std.specs.Prelude.{◌≤◌};
 
 use command::Command;
@@ -18,7 +21,7 @@ const STATE: usize = 142;
 pub type Fields = [u16; COLUMNS];
 
 // A variant's number, and what the variants of its type hold: seven columns.
-#[derive(Drop)]
+#[derive(Clone, Copy)]
 struct Parts {
     kind: u16,
     a: u16,

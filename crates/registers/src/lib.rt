@@ -1,5 +1,8 @@
 // The registers (01 Registers; 02 items 4 and 7; 001 7.6): a table for each layout, the flags, what each address reads and what a write does. Only
 // this crate knows the places of their bits.
+
+#![tactic(auto)]
+
 mod raising;
 mod spictrl;
 mod word;
@@ -13,14 +16,14 @@ pub use spictrl::{dog_limit, is_xmodem};
 pub use word::bit;
 
 // What a register reads after power-up, and the bits that a write reaches.
-#[derive(Drop)]
+#[derive(Clone, Copy)]
 pub struct Register {
     pub reset: u16,
     pub writable: u16,
 }
 
 // The device's state.
-#[derive(Drop)]
+#[derive(Clone, Copy)]
 pub enum Mode {
     Normal,
     Init,
@@ -29,7 +32,7 @@ pub enum Mode {
 
 // The flags: OTP, POR, SRST, REG_WRITE, SPI_CRC of STATUS; SPI_CS, QUEUE_OVF, CHECK_BIT, line CRC, SIN of IFST; those of the FIFOs. Beside them
 // what register 11 shows: the number of the word that CHECK_BIT went up for, 0 while it is down (02 item 4).
-#[derive(Drop)]
+#[derive(Clone, Copy)]
 pub struct Flags {
     pub otp: bool,
     pub por: bool,
@@ -49,7 +52,7 @@ pub struct Flags {
 }
 
 // The registers that hold what was written, and whose table they go by.
-#[derive(Drop)]
+#[derive(Clone, Copy)]
 pub struct Regs {
     pub layout: Layout,
     pub spictrl: u16,
@@ -59,7 +62,7 @@ pub struct Regs {
     pub diagmask: u16,
 }
 
-#[derive(Drop)]
+#[derive(Clone, Copy)]
 pub struct Control {
     pub mode: Mode,
     pub drdy: bool,
@@ -68,7 +71,7 @@ pub struct Control {
 }
 
 // The flags that events raise, by name. CHECK_BIT has no name here: it goes up with its number (`went_bad`).
-#[derive(Drop)]
+#[derive(Clone, Copy)]
 pub enum Flag {
     Srst,
     RegWrite,
@@ -84,7 +87,7 @@ pub enum Flag {
 }
 
 // What a write asks of the bridge beyond the registers. `Refused` is note 10.
-#[derive(Drop)]
+#[derive(Clone, Copy)]
 pub enum Effect {
     Nothing,
     TransmitClear,
@@ -92,7 +95,7 @@ pub enum Effect {
     Refused,
 }
 
-#[derive(Drop)]
+#[derive(Clone, Copy)]
 pub struct Written {
     pub control: Control,
     pub effect: Effect,

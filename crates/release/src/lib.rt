@@ -1,4 +1,7 @@
 // Chip select released (01 Frames; note 12).
+
+#![tactic(auto)]
+
 ghost use Rattle.std.specs.Prelude.{◌≡◌, false};
 ghost use Rattle.release.specs.Release.{cut_deed, cut as cut_of, released_in};
 

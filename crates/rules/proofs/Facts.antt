@@ -6,7 +6,7 @@ use Prim.Native.Nat.{ℕ, zero, suc, ◌+◌, ◌-◌, ◌≤◌, ◌<◌}
 use native.Mathlib.Omega.{arith}
 use lib.ListN.{take, drop, get_or}
 use lib.Seq.{get_or-drop}
-use borrow.Author.Tests.{ltb-true, ltb-false, leb-true, leb-false, eqb-true, lt-ltb, le-ltb, le-leb, lt-leb, eq-eqb, not_true}
+use borrow.Author.Tests.{ltb-true, ltb-false, leb-true, leb-false, eqb-true, lt-ltb, le-ltb, le-leb, lt-leb, eq-eqb, not-true}
 use lib.Dec.{ltb, leb}
 use Rattle.base.specs.Pick.{pick, pick_keeps, and_l, and_r, and_both}
 use Rattle.line.specs.Format.{piece_length}
@@ -85,7 +85,7 @@ unfolding role_sound pick
 role_youngest begun i p h e =
     let a : leb begun i ≡ false = lt-leb begun i (omega arith) in
     let b : ltb (i + 1) begun ≡ false = le-ltb (i + 1) begun (omega arith) in
-    not_true (is_done p) (rw (a, b) at h)
+    not-true (is_done p) (rw (a, b) at h)
 
 module _ (q : Queue) (h : queue_sound q ≡ true) where
   begun_used : q.begun ≤ q.used
@@ -157,8 +157,8 @@ some_waiting q s =
 pub sender_fit : (s : Sender) (q : Queue) → sender_sound s q ≡ true → SenderFit s q
 sender_fit s q h = record {
   piece = and_l _ (not (idle s && under_way q)) (and_l _ (not (leb 18 s.gone && speaking q)) h);
-  rest = not_true _ (search (and_l, and_r));
-  over = not_true _ (search (and_l, and_r));
+  rest = not-true _ (search (and_l, and_r));
+  over = not-true _ (search (and_l, and_r));
 }
 
 pub sender_from : (s : Sender) (q : Queue) → SenderFit s q → sender_sound s q ≡ true
@@ -223,7 +223,7 @@ sound_facts b h =
         otp = search (and_l, and_r) depth 30;
         drdy = and_r (regs_sound b.control.regs && otp_sound b.control.mode b.control.flags.otp) _ (and_l _ _ c);
         word = search (and_l, and_r) depth 30;
-        marked = not_true _ (search (and_l, and_r) depth 30);
+        marked = not-true _ (search (and_l, and_r) depth 30);
       };
       queue = queue_fit b.sending.queue q;
       standing = queue_stands b.sending.queue q;

@@ -1,4 +1,7 @@
 // The record rules (01 Notes, note 2), as a test. It asks nothing of the state, so sums are taken in 32 bits.
+
+#![tactic(auto)]
+
 ghost use Rattle.std.specs.Prelude.{◌≡◌, ◌+◌, ◌≤◌};
 ghost use Rattle.state.specs.Queue.{waiting, words_of};
 ghost use Rattle.rules.specs.Sound.{ring_sound, last_left, ledger as ledger_of, sound as sound_of};

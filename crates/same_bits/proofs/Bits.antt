@@ -231,10 +231,10 @@ heard_alike s t q r a k m = record {
 runs_alike : (s t : Sending) (acts : List Act) → Alike s t → Allowed s t acts → bits_now s acts ≡ bits_before t acts
 unfolding bits_now bits_before
 runs_alike s t [] a h = refl
-runs_alike s t (ticked may w ∷ acts) a h = rw (bit_alike s t a may w, runs_alike _ _ acts (tick_alike s t a may w) h) refl
+runs_alike s t (ticked may w ∷ acts) a h = rw (bit_alike s t a may w, runs_alike (tick_sender s may w).sending (left_as_one t may w) acts (tick_alike s t a may w) h) refl
 runs_alike s t (hosted st d ∷ acts) a h =
-    runs_alike _ _ acts (done_alike (stored s st) (stored t st) d (stored_alike s t st a) (holds_stored s st d h.0) (holds_stored t st d h.1)) h.2
-runs_alike s t (heard now before ∷ acts) a h = runs_alike _ _ acts (heard_alike s t now before a h.0 h.1) h.2
+    runs_alike (done (stored s st) d) (done (stored t st) d) acts (done_alike (stored s st) (stored t st) d (stored_alike s t st a) (holds_stored s st d h.0) (holds_stored t st d h.1)) h.2
+runs_alike s t (heard now before ∷ acts) a h = runs_alike (with_queue s now) (with_queue t before) acts (heard_alike s t now before a h.0 h.1) h.2
 
 kept_waits : (q r : Queue) → Kept q r → SameWait q r
 kept_waits q r k = record { fit = record { ranges = k.fit; eight = k.eight }; waits = k.waits }

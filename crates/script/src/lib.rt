@@ -1,4 +1,7 @@
 // The event script and what is printed of it (01 The bench program).
+
+#![tactic(auto)]
+
 ghost use Rattle.std.specs.Prelude.{◌≡◌, ◌/◌, ◌%◌};
 ghost use Rattle.events.specs.declared.Event.TheVariants.{Power};
 ghost use Rattle.script.specs.Script.{is_head, value_of, power_record, tick_record, release_record, record_of, hex_digit, digit as digit_of, sign as sign_of, line_of};
@@ -7,14 +10,14 @@ use events::Event;
 use layout::Layout;
 
 // A record of the script: an event, or none.
-#[derive(Drop)]
+#[derive(Clone, Copy)]
 pub enum Record {
     Good(Event),
     Bad,
 }
 
 // A printed line: its bytes, and how many there are.
-#[derive(Drop)]
+#[derive(Clone, Copy)]
 pub struct Line {
     pub bytes: [u8; 17],
     pub length: usize,

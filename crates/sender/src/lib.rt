@@ -1,4 +1,7 @@
 // What a tick sends (01 The line): the choice first, then what it does.
+
+#![tactic(auto)]
+
 ghost use Rattle.std.specs.Prelude.{◌≡◌, ◌-◌, eqb};
 ghost use Rattle.base.specs.Pick.{pick};
 ghost use Rattle.state.specs.Facts.{QueueFit, SendFit};
@@ -11,7 +14,7 @@ use next::Next;
 use state::{Place, Queue, Returned, Sender, Sending};
 
 // `starved`: note 13. `started`: a start bit went out. `differs`: a place was freed with CRCs that differ.
-#[derive(Drop)]
+#[derive(Clone, Copy)]
 pub struct Sent {
     pub sending: Sending,
     pub sout: bool,

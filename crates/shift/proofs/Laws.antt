@@ -22,7 +22,7 @@ use Rattle.shift.specs.Shifts.{Offer, offered, called_in, offer_of, Due, is_cut,
 use Rattle.shift.specs.declared.Entry.{Entry}
 use Rattle.shift.specs.declared.Offered.{Offered}
 use Rattle.shift.specs.declared.Shifted.{Shifted}
-use Rattle.shift.proofs.Lists.{due_cut, after_cut, due_whole, after_whole, is_short, is_cut, is_whole, dues_left, dues_next, sent_ticks, offer_ticks}
+use Rattle.shift.proofs.Lists.{due_cut, after_cut, due_whole, after_whole, is_short, is_cut_lem, is_whole, dues_left, dues_next, sent_ticks, offer_ticks}
 
 -- an entry of the list
 module _ (cells : List ℕ) (at : ℕ) (h : at < length cells) where
@@ -50,7 +50,7 @@ module _ (cells : List ℕ) (at : ℕ) (h : at < length cells) where
 
   module _ (k : 3 ≤ length cells - at) where
     pub to_cut : length cells - (at + 3) < get_or cells (at + 2) 0 → (e : Entry) → e ≡ cut_entry → Stands cells at e
-    to_cut l e p = stands_cut (is_cut cells at (omega arith) (omega arith)) e p
+    to_cut l e p = stands_cut (is_cut_lem cells at (omega arith) (omega arith)) e p
 
     pub to_whole : get_or cells (at + 2) 0 ≤ length cells - (at + 3)
         → Stands cells at

@@ -43,9 +43,9 @@ module _ (cells : List ℕ) (at : ℕ) where
   unfolding is_cut
   is_short h = rw (lt-ltb (length cells) (at + 3) h)
 
-  pub is_cut : at + 3 ≤ length cells → length cells < at + 3 + get_or cells (at + 2) 0 → is_cut cells at ≡ true
+  pub is_cut_lem : at + 3 ≤ length cells → length cells < at + 3 + get_or cells (at + 2) 0 → is_cut cells at ≡ true
   unfolding is_cut
-  is_cut h k = rw (le-ltb (length cells) (at + 3) h, lt-ltb (length cells) (at + 3 + get_or cells (at + 2) 0) k)
+  is_cut_lem h k = rw (le-ltb (length cells) (at + 3) h, lt-ltb (length cells) (at + 3 + get_or cells (at + 2) 0) k)
 
   pub is_whole : at + 3 + get_or cells (at + 2) 0 ≤ length cells → is_cut cells at ≡ false
   unfolding is_cut

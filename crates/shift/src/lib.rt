@@ -1,4 +1,7 @@
 // A shift (02, item 13): call-ups offered in order, ticks made while one waits for room, and all sent at the end.
+
+#![tactic(auto)]
+
 ghost use Rattle.std.specs.Prelude.{◌≡◌, [], ◌-◌, ◌<◌, ◌≤◌, length, take, drop};
 ghost use Rattle.verdict.specs.declared.Verdict.TheVariants.{Taken};
 ghost use Rattle.chain.specs.Chain.{moment};
@@ -9,7 +12,7 @@ use chain::Goal;
 use state::Bridge;
 use verdict::Verdict;
 
-#[derive(Drop)]
+#[derive(Clone, Copy)]
 pub struct Offered {
     pub board: Board,
     pub bridge: Bridge,
@@ -19,7 +22,7 @@ pub struct Offered {
 }
 
 // Call-ups taken, ticks made, and the refusal that stopped it.
-#[derive(Drop)]
+#[derive(Clone, Copy)]
 pub struct Shifted {
     pub board: Board,
     pub bridge: Bridge,
@@ -63,7 +66,7 @@ pub fn offer(
 }
 
 // A call-up of a list: its words are the cells from `from` to `to`, and `next` is where the next one begins.
-#[derive(Drop)]
+#[derive(Clone, Copy)]
 pub struct Entry {
     pub slot: u16,
     pub reading: u16,

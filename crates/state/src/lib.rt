@@ -1,4 +1,7 @@
 // The bridge's record (01 What the bridge is), in sub-records by the rule that changes them. Counts are narrow: the whole is below 256 bytes.
+
+#![tactic(auto)]
+
 ghost use Rattle.std.specs.Prelude.{◌≡◌, ltb};
 ghost use Rattle.state.specs.Frame.{data_words, is_forward};
 ghost use Rattle.state.specs.Notes.{note_number};
@@ -13,7 +16,7 @@ use registers::{Control, Mode};
 pub use rings::{less_one, popped};
 
 // A lent store as a ring: the oldest word's cell, and how many words it holds.
-#[derive(Drop)]
+#[derive(Clone, Copy)]
 pub struct Ring {
     pub head: u16,
     pub count: u16,
@@ -21,7 +24,7 @@ pub struct Ring {
 
 // A queued command: its words have a place, and its extra ENDs have one (02 item 3). What has been freed of it is 0 here. `store`: what is read
 // back goes to RX. `compare`: its first sent word asks for the CRCs to be compared. `damaged`: a check error came while it was read back.
-#[derive(Drop)]
+#[derive(Clone, Copy)]
 pub struct Place {
     pub words: u16,
     pub ends: u16,
@@ -35,7 +38,7 @@ pub struct Place {
 }
 
 // The commands with places in use, oldest first; the first `begun` of them have begun sending.
-#[derive(Drop)]
+#[derive(Clone, Copy)]
 pub struct Queue {
     pub places: [Place; 8],
     pub used: u16,
@@ -43,7 +46,7 @@ pub struct Queue {
 }
 
 // The piece under way and its bits gone; the words still to take for this command, and the ENDs still to begin.
-#[derive(Drop)]
+#[derive(Clone, Copy)]
 pub struct Sender {
     pub piece: Piece,
     pub gone: u16,
@@ -51,7 +54,7 @@ pub struct Sender {
     pub ends: u16,
 }
 
-#[derive(Drop)]
+#[derive(Clone, Copy)]
 pub struct Sending {
     pub tx: Ring,
     pub queue: Queue,
@@ -59,7 +62,7 @@ pub struct Sending {
 }
 
 // What the command being read does: it belongs to a place, its words go to RX, it has stored a word.
-#[derive(Drop)]
+#[derive(Clone, Copy)]
 pub struct Reader {
     pub ear: Ear,
     pub belongs: bool,
@@ -67,14 +70,14 @@ pub struct Reader {
     pub stored: bool,
 }
 
-#[derive(Drop)]
+#[derive(Clone, Copy)]
 pub struct Receiving {
     pub rx: Ring,
     pub reader: Reader,
 }
 
 // What an answer has still to give. `Check` is the CRC of the words answered.
-#[derive(Drop)]
+#[derive(Clone, Copy)]
 pub enum Reply {
     Status(u16),
     Data(u16),
@@ -83,7 +86,7 @@ pub enum Reply {
 }
 
 // A frame's phase. `got`: data words that came. `crc`: of the words so far. `mine`: words of this frame in TX that are not released.
-#[derive(Drop)]
+#[derive(Clone, Copy)]
 pub enum Phase {
     Idle,
     Collecting {
@@ -102,7 +105,7 @@ pub enum Phase {
 }
 
 // How far an open frame has come: what `Phase::Collecting` keeps beside the command.
-#[derive(Drop)]
+#[derive(Clone, Copy)]
 pub struct Progress {
     pub got: u16,
     pub crc: u16,
@@ -112,7 +115,7 @@ pub struct Progress {
 }
 
 // What a forward's command word says: `Command::Forward`.
-#[derive(Drop)]
+#[derive(Clone, Copy)]
 pub struct Fwd {
     pub crc: bool,
     pub words: u16,
@@ -121,7 +124,7 @@ pub struct Fwd {
 }
 
 // The phase, the words that REG_WR_CRC holds until its CRC word, and whether the frame's CRC and its answer's are CRC-16/XMODEM (02 item 7).
-#[derive(Drop)]
+#[derive(Clone, Copy)]
 pub struct Frame {
     pub phase: Phase,
     pub held: [u16; 12],
@@ -129,7 +132,7 @@ pub struct Frame {
 }
 
 // The last clock reading, the watchdog's mark, the SIN watch with its mark, and the last SIN bit.
-#[derive(Drop)]
+#[derive(Clone, Copy)]
 pub struct Clock {
     pub reading: u16,
     pub mark: u16,
@@ -138,7 +141,7 @@ pub struct Clock {
     pub sin: bool,
 }
 
-#[derive(Drop)]
+#[derive(Clone, Copy)]
 pub struct Bridge {
     pub control: Control,
     pub sending: Sending,
@@ -148,14 +151,14 @@ pub struct Bridge {
 }
 
 // What an event writes of a store: nothing, or a word to the ring's next cell.
-#[derive(Drop)]
+#[derive(Clone, Copy)]
 pub enum Store {
     Keep,
     Put(u16),
 }
 
 // What a frame does to the sending side, after the word that it stores: queue a command, take words back, a transmit clear, a soft reset.
-#[derive(Drop)]
+#[derive(Clone, Copy)]
 pub enum Deed {
     Leave,
     Enqueue(Place),
@@ -165,14 +168,14 @@ pub enum Deed {
 }
 
 // The queue after a place got its marks, and whether it was freed with CRCs that differ.
-#[derive(Drop)]
+#[derive(Clone, Copy)]
 pub struct Returned {
     pub queue: Queue,
     pub differs: bool,
 }
 
 // The notes of 01, 0 to 15.
-#[derive(Drop)]
+#[derive(Clone, Copy)]
 pub enum Note {
     Done,
     WrongStores,

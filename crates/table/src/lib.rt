@@ -1,4 +1,7 @@
 // The text of the table that `refusals` walks. A place in it is that of the mark before what stands there: any byte that no name has.
+
+#![tactic(auto)]
+
 ghost use Rattle.std.specs.Prelude.{◌+◌, ◌-◌, ◌/◌, ◌≤◌};
 
 use records::{COLUMNS, Fields};

@@ -1,4 +1,7 @@
 // A line tick: the sender first, then the reader (01 Notes, The line).
+
+#![tactic(auto)]
+
 ghost use Rattle.std.specs.Prelude.{◌≡◌};
 ghost use Rattle.state.specs.Facts.{HostFit};
 ghost use Rattle.ticks.specs.Ticks.{quietly as quietly_of, blocked_in, same as same_of, mark_after, watched as watched_of, flags_sent, starved_flags, control_ticked, tick_note, phase_after, tick_ends, ticked as ticked_of};
@@ -9,7 +12,7 @@ use sender::Sent;
 use state::{Bridge, Clock, Frame, Note, Phase, Sending, Store};
 
 // What an event leaves and says, and the words that it stores.
-#[derive(Drop)]
+#[derive(Clone, Copy)]
 pub struct Did {
     pub bridge: Bridge,
     pub sdo: u16,

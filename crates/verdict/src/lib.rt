@@ -1,11 +1,14 @@
 // Whether a call-up is taken, and why not (02, item 13). It looks at the bridge and at the lengths of its stores, and changes nothing.
+
+#![tactic(auto)]
+
 ghost use Rattle.std.specs.Prelude.{◌≡◌, ◌≤◌};
 ghost use Rattle.verdict.specs.Verdicts.{verdict_number, is_taken, is_no_room, is_broken, is_idle, is_ready, has_room, room_verdict, verdict_by};
 
 use state::{Bridge, Phase};
 
 // Taken, notes 1 and 2, refusals 32 to 35.
-#[derive(Drop)]
+#[derive(Clone, Copy)]
 pub enum Verdict {
     Taken,
     WrongStores,

@@ -54,9 +54,9 @@ pub record OneByOne (c : Config) (es : List Event) (s : List ℕ) (n : End) : Ty
 module _ (c : Config) (records s : List ℕ) (es : List Event) (told : events_in records ≡ events es) (room : length es * 4 ≤ length s)
     (stores : RightStores c.tx c.rx) (rules : sound c.bridge ≡ true) where
   -- neither refused nor stopped
-  pub all_done : night layouts c records s ≡ all_done layouts c es s
+  pub all_done_lem : night layouts c records s ≡ all_done layouts c es s
   unfolding judged tested
-  all_done =
+  all_done_lem =
       ap (judged layouts c s) told
       ∙ sym (pick_not_lt _ _ _ _ _ room (pick_eq _ _ _ _ _ stores.tx_is (pick_eq _ _ _ _ _ stores.rx_is (pick_true _ _ _ _ rules refl))))
 
@@ -69,7 +69,7 @@ module _ (c : Config) (records s : List ℕ) (es : List Event) (told : events_in
       let n = four_each layouts c es in
       let a = length-append bytes others in
       let d = length-drop (length es * 4) s in
-      rw all_done
+      rw all_done_lem
       (record {
         state = refl;
         tx = refl;
@@ -91,7 +91,7 @@ unfolding bytes_in
 its_four_bytes c records s es e more told room stores rules =
     let others : List ℕ = drop (length (es ++ e ∷ more) * 4) s in
     let tail : List ℕ = bytes_of (out_of layouts (end_of layouts c es) e) ++ bytes_in layouts (next layouts (end_of layouts c es) e) more in
-    ap (λ (x : End). take 4 (drop (length es * 4) x.results)) (all_done c records s (es ++ e ∷ more) told room stores rules)
+    ap (λ (x : End). take 4 (drop (length es * 4) x.results)) (all_done_lem c records s (es ++ e ∷ more) told room stores rules)
     ∙ ap (λ (x : List ℕ). take 4 (drop (length es * 4) x))
     (ap (λ (x : List ℕ). x ++ others) (bytes_append layouts c es (e ∷ more)) ∙ append_assoc (bytes_in layouts c es) tail others)
     ∙ ap (take 4) (drop_at (bytes_in layouts c es) (tail ++ others) (length es * 4) (four_each layouts c es))

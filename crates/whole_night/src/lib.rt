@@ -1,4 +1,7 @@
 // A night's events in one call (02 item 6): a list of three-byte records, four result bytes for each.
+
+#![tactic(auto)]
+
 ghost use Rattle.std.specs.Prelude.{◌≡◌, true, ◌*◌, ◌≤◌, length};
 ghost use Rattle.command.specs.Layouts.{layouts};
 ghost use Rattle.bridge.specs.Fit.{Fit};
@@ -11,7 +14,7 @@ ghost use Rattle.whole_night.specs.Outcomes.{outcome_number};
 use state::Bridge;
 
 // What a list came to: all of it done, or why it was refused.
-#[derive(Drop)]
+#[derive(Clone, Copy)]
 pub enum Outcome {
     Done,
     NoEvent,
@@ -21,7 +24,7 @@ pub enum Outcome {
 }
 
 // The state left, how many events were done, and what was found before the first.
-#[derive(Drop)]
+#[derive(Clone, Copy)]
 pub struct Listed {
     pub state: Bridge,
     pub done: usize,

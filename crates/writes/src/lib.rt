@@ -1,4 +1,7 @@
 // Register writes by frames (01 Frames, "REG_WR writes as words come, REG_WR_CRC at the CRC word, ascending").
+
+#![tactic(auto)]
+
 ghost use Rattle.std.specs.Prelude.{◌≡◌, true, false, ◌+◌, ◌<◌, ◌≤◌, take};
 ghost use Rattle.base.specs.Pick.{pick};
 ghost use Rattle.writes.specs.Writes.{is_quiet, busy as busy_of, with_write, write_all, no_effects, effected as effected_of, held_word, register_word};
@@ -12,7 +15,7 @@ use registers::{Control, Effect, Written};
 use state::{Bridge, Deed, Note, Phase, Store};
 
 // What the writes of a frame did, all together.
-#[derive(Drop)]
+#[derive(Clone, Copy)]
 pub struct Effects {
     pub control: Control,
     pub clears_tx: bool,

@@ -1,4 +1,7 @@
 // What a write of each address does (01 Registers). The definitions are `registers`'s.
+
+#![tactic(auto)]
+
 ghost use Rattle.std.specs.Prelude.{◌≡◌};
 ghost use Rattle.base.specs.Bits.{bit as bit_of};
 ghost use Rattle.base.specs.Pick.{pick};

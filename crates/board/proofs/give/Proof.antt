@@ -7,10 +7,10 @@ use Rattle.board.proofs.Laws.{Giving, give_begins, give_again, give_ends}
 use Rattle.board.proofs.give.Statement.{statement}
 use Rattle.board.proofs.give.Tie as tie
 
-abbrev invariant-loop : tie.invariant-loop
+abbrev invariant-loop : tie.invariant-loop-i
 invariant-loop tx₀ rx₀ frame b₀ i₀ tx rx b i = Giving (config b₀ tx₀ rx₀) frame b tx rx i
 
-abbrev decreases-loop : tie.decreases-loop
+abbrev decreases-loop : tie.decreases-loop-i
 decreases-loop tx₀ rx₀ frame b₀ i₀ tx rx b i = length frame - i
 
 pub give_spec : {M : Type 1} → statement M

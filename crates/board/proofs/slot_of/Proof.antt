@@ -6,10 +6,10 @@ use Rattle.board.proofs.Laws.{Pouring, pour_begins, pour_again, to_slot}
 use Rattle.board.proofs.slot_of.Statement.{statement}
 use Rattle.board.proofs.slot_of.Tie as tie
 
-abbrev invariant-loop : tie.invariant-loop
+abbrev invariant-loop : tie.invariant-loop-i
 invariant-loop reading words kept₀ i₀ kept i = Pouring words kept i
 
-abbrev decreases-loop : tie.decreases-loop
+abbrev decreases-loop : tie.decreases-loop-i
 decreases-loop reading words kept₀ i₀ kept i = length words - i
 
 pub slot_of_spec : {M : Type 1} → statement M

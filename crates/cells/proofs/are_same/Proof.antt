@@ -7,10 +7,10 @@ use Rattle.cells.specs.Lent.{same_up_to}
 use Rattle.cells.proofs.are_same.Statement.{statement}
 use Rattle.cells.proofs.are_same.Tie as tie
 
-abbrev invariant-loop : tie.invariant-loop
+abbrev invariant-loop : tie.invariant-loop-i
 invariant-loop c d same₀ i₀ same i = (same ≡ same_up_to i c d) × (i ≤ 23)
 
-abbrev decreases-loop : tie.decreases-loop
+abbrev decreases-loop : tie.decreases-loop-i
 decreases-loop c d same₀ i₀ same i = 23 - i
 
 pub are_same_spec : {M : Type 1} → statement M

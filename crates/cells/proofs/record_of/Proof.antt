@@ -13,22 +13,13 @@ record_of_spec =
     (λ c. search rules) (λ c. search rules) (λ c. search rules) (λ c κs. search rules) (λ c. search rules) (λ c. search rules) (λ c κs. search rules)
     (λ c.
     let f-clock = c.clock.ensures in
-    let s1 = c.before.before.before in
-    let f-frame = s1.frame.ensures in
-    let s2 = s1.before.before.before.before.before.before in
-    let f-reader = s2.reader.ensures in
-    let s3 = s2.before.before.before.before in
-    let f-fourth = s3.fourth.ensures in
-    let s4 = s3.before in
-    let f-third = s4.third.ensures in
-    let s5 = s4.before in
-    let f-sender = s5.sender.ensures in
-    let s6 = s5.before.before.before in
-    let f-queue-of = s6.queue-of.ensures in
-    let s7 = s6.before in
-    let f-second = s7.second.ensures in
-    let s8 = s7.before in
-    let f-first = s8.first.ensures in
-    let s9 = s8.before in
-    let f-control = s9.control.ensures in
+    let f-frame = c.frame.ensures in
+    let f-reader = c.reader.ensures in
+    let f-fourth = c.fourth.ensures in
+    let f-third = c.third.ensures in
+    let f-sender = c.sender.ensures in
+    let f-queue-of = c.queue_of.ensures in
+    let f-second = c.second.ensures in
+    let f-first = c.first.ensures in
+    let f-control = c.control.ensures in
     to_record _ _ _ _ _ _ _ _ _ _ _ f-control f-first f-second f-queue-of f-sender f-third f-fourth f-reader f-frame f-clock))

@@ -6,11 +6,11 @@ use Rattle.command.proofs.crc_start.Tie as tie
 use Rattle.command.proofs.crc_start.Reads as reads
 use Rattle.command.proofs.crc_start.Lts as lts
 
-returns : tie.Need-returns
+returns : tie.Need-returns-then-xmodem
 unfolding start_by
 returns c = search (rules, picks)
 
-returns_2 : tie.Need-returns-2
+returns_2 : tie.Need-returns
 unfolding start_by
 returns_2 c = search (rules, picks)
 

@@ -6,11 +6,11 @@ use Rattle.command.proofs.soft_reset.Tie as tie
 use Rattle.command.proofs.soft_reset.Reads as reads
 use Rattle.command.proofs.soft_reset.Lts as lts
 
-returns : tie.Need-returns
+returns : tie.Need-returns-then-f
 unfolding soft_reset
 returns c = search (rules, picks)
 
-returns_2 : tie.Need-returns-2
+returns_2 : tie.Need-returns
 unfolding soft_reset
 returns_2 c = search (rules, picks)
 

@@ -6,31 +6,31 @@ use Rattle.crc16.proofs.Laws.{Inv, first, next, last}
 use Rattle.crc16.proofs.crc_list.Statement.{statement}
 use Rattle.crc16.proofs.crc_list.Tie as tie
 
-abbrev invariant-loop : tie.invariant-loop
+abbrev invariant-loop : tie.invariant-loop-i
 invariant-loop words crc₀ i₀ crc i = Inv words crc i
 
-abbrev decreases-loop : tie.decreases-loop
+abbrev decreases-loop : tie.decreases-loop-i
 decreases-loop words crc₀ i₀ crc i = length words - i
 
-loop_holds : tie.Need-loop-init invariant-loop decreases-loop
+loop_holds : tie.Need-loop-i-init invariant-loop decreases-loop
 loop_holds c = search (rules, first)
 
-mul_crc_word : tie.Need-overflow-mul-crc-word invariant-loop decreases-loop
+mul_crc_word : tie.Need-offset_bounds-words-i invariant-loop decreases-loop
 mul_crc_word c = search rules
 
-shared_slice_read_crc_word : tie.Need-shared-slice-read-crc-word invariant-loop decreases-loop
+shared_slice_read_crc_word : tie.Need-bounds-words-i invariant-loop decreases-loop
 shared_slice_read_crc_word c = search rules
 
-crc_word_requires : tie.Need-crc-word-requires invariant-loop decreases-loop
+crc_word_requires : tie.Need-crc_word-crc-requires invariant-loop decreases-loop
 crc_word_requires c κs = search rules
 
-add_i : tie.Need-overflow-add-i invariant-loop decreases-loop
+add_i : tie.Need-overflow_add-i invariant-loop decreases-loop
 add_i c = search rules
 
-loop_less : tie.Need-loop-smaller invariant-loop decreases-loop
+loop_less : tie.Need-loop-i-smaller invariant-loop decreases-loop
 loop_less c = search rules
 
-loop_again : tie.Need-loop-preserved invariant-loop decreases-loop
+loop_again : tie.Need-loop-i-preserved invariant-loop decreases-loop
 loop_again c = search (rules, next)
 
 returns : tie.Need-returns invariant-loop decreases-loop

@@ -6,10 +6,10 @@ use Rattle.crc16.proofs.Laws.{Inv, first, next, last}
 use Rattle.crc16_wide.proofs.crc_list.Statement.{statement}
 use Rattle.crc16_wide.proofs.crc_list.Tie as tie
 
-abbrev invariant-loop : tie.invariant-loop
+abbrev invariant-loop : tie.invariant-loop-i
 invariant-loop words crc₀ i₀ crc i = Inv words crc i
 
-abbrev decreases-loop : tie.decreases-loop
+abbrev decreases-loop : tie.decreases-loop-i
 decreases-loop words crc₀ i₀ crc i = length words - i
 
 pub crc_list_spec : {M : Type 1} → statement M

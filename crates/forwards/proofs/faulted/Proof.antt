@@ -16,4 +16,4 @@ faulted_spec =
     (λ c κs. search rules)
     (λ c. search (rules, at_second faulted))
     (λ c. search (rules, at_second faulted))
-    (λ c. unfaulted _ c.before.args.note c.match.keys3))
+    (λ c. unfaulted _ c.args.note c.in_default.in_default-own.keys3))

@@ -6,10 +6,10 @@ use Rattle.frames.proofs.Reading.{Summed, sum_begins, sum_again, sum_ends}
 use Rattle.frames.proofs.crc_from.Statement.{statement}
 use Rattle.frames.proofs.crc_from.Tie as tie
 
-abbrev invariant-loop : tie.invariant-loop
+abbrev invariant-loop : tie.invariant-loop-i
 invariant-loop start words sum₀ i₀ sum i = Summed start words sum i
 
-abbrev decreases-loop : tie.decreases-loop
+abbrev decreases-loop : tie.decreases-loop-i
 decreases-loop start words sum₀ i₀ sum i = length words - i
 
 pub crc_from_spec : {M : Type 1} → statement M

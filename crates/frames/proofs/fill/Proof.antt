@@ -6,10 +6,10 @@ use Rattle.frames.proofs.Writing.{Filled, fill_begins, fill_again, fill_ends, fi
 use Rattle.frames.proofs.fill.Statement.{statement}
 use Rattle.frames.proofs.fill.Tie as tie
 
-abbrev invariant-loop : tie.invariant-loop
+abbrev invariant-loop : tie.invariant-loop-i
 invariant-loop start word words buffer₀ crc₀ i₀ buffer crc i = Filled start word words buffer₀ i buffer crc
 
-abbrev decreases-loop : tie.decreases-loop
+abbrev decreases-loop : tie.decreases-loop-i
 decreases-loop start word words buffer₀ crc₀ i₀ buffer crc i = length words - i
 
 pub fill_spec : {M : Type 1} → statement M

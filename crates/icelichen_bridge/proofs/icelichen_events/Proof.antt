@@ -13,12 +13,12 @@ icelichen_events_spec =
     tie.close
     (tie.spec (λ c κs. search rules) (λ c κs. search rules) (λ c κs. search rules) (λ c κs. search rules) (λ c κs. search rules) (λ c. search rules)
     (λ c. search rules) (λ c. search rules) (λ c.
-    let code = c.List-code.ensures in
-    let laid = c.before.lay.ensures in
-    let number = c.before.before.number.ensures in
-    let night = c.before.before.before.before.before.before.before.before.before.before.before.night.ensures in
-    let lent = c.before.before.before.before.before.before.before.before.before.before.before.before.before.before.before.lent.ensures in
+    let code = c.list_code.ensures in
+    let laid = c.lay.ensures in
+    let number = c.number.ensures in
+    let night = c.night-listed.ensures in
+    let lent = c.lent.ensures in
     let one = to_listed _ _ _ _ _ _ _ _ _ _ _ _ _ lent night number _ laid.0 code in
     let two = to_list_leaves _ _ _ _ _ _ _ _ _ _ _ _ _ lent night number laid.1 in
-    let whole : to_z w64 (of_z w64 c.List-code.result) ≡ c.List-code.result = to_z-of_z (search rules) in
+    let whole : to_z w64 (of_z w64 c.list_code.result) ≡ c.list_code.result = to_z-of_z {w = w64} (search rules) in
     rw whole (one, two)))

@@ -8,10 +8,10 @@ use Rattle.listing.proofs.Records.{none_yet, one_more, one_bad, all_good}
 use Rattle.listing.proofs.are_events.Statement.{statement}
 use Rattle.listing.proofs.are_events.Tie as tie
 
-abbrev invariant-loop : tie.invariant-loop
+abbrev invariant-loop : tie.invariant-loop-k
 invariant-loop records many k₀ k = (k ≤ many) × (all_events records k ≡ true)
 
-abbrev decreases-loop : tie.decreases-loop
+abbrev decreases-loop : tie.decreases-loop-k
 decreases-loop records many k₀ k = many - k
 
 pub are_events_spec : {M : Type 1} → statement M

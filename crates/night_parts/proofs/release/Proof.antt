@@ -9,5 +9,5 @@ pub release_spec : {M : Type 1} → statement M
 release_spec =
     tie.close
     (tie.spec (λ c κs. search rules) (λ c κs. search rules) (λ c κs. search (rules, lent_room)) (λ c. search rules) (λ c. search rules)
-    (λ c. let p = c.before.before.before.before.before.before.before.before.before.before.before.before.before.requires in let m = c.before.before.before.before.before.before.before.moved.ensures in let y = c.before.before.before.before.before.before.if1.true in let o = c.before.before.before.before.settled.ensures in let u = c.before.before.put.ensures in search (rules, release_part))
+    (λ c. let p = c.requires in let m = c.moved-m.ensures in let y = c.if-moves.true in let o = c.settled-settled.ensures in let u = c.put.ensures in search (rules, release_part))
     (λ c κs. search (rules, lent_release)) (λ c. search rules) (λ c. search rules) (λ c. search rules) (λ c. search rules))

@@ -5,10 +5,10 @@ use Rattle.playing.proofs.Counting.{Counted, count_begins, count_all, count_cut,
 use Rattle.playing.proofs.ahead.Statement.{statement}
 use Rattle.playing.proofs.ahead.Tie as tie
 
-abbrev invariant-loop : tie.invariant-loop
+abbrev invariant-loop : tie.invariant-loop-k
 invariant-loop records left₀ k₀ left k = Counted records left k
 
-abbrev decreases-loop : tie.decreases-loop
+abbrev decreases-loop : tie.decreases-loop-k
 decreases-loop records left₀ k₀ left k = 64 - k
 
 pub ahead_spec : {M : Type 1} → statement M

@@ -5,10 +5,10 @@ use Rattle.playing.proofs.Printed.{Printed, print_begins, print_place, print_tex
 use Rattle.playing.proofs.print.Statement.{statement}
 use Rattle.playing.proofs.print.Tie as tie
 
-abbrev invariant-loop : tie.invariant-loop
+abbrev invariant-loop : tie.invariant-loop-left
 invariant-loop records results out₀ at left₀ given₀ next₀ out left given next = Printed records results out₀ at out left given next
 
-abbrev decreases-loop : tie.decreases-loop
+abbrev decreases-loop : tie.decreases-loop-left
 decreases-loop records results out₀ at left₀ given₀ next₀ out left given next = length left
 
 pub print_spec : {M : Type 1} → statement M

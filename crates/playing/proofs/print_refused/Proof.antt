@@ -5,19 +5,15 @@ use Rattle.playing.proofs.Printed.{PrintedRefused, refused_begins, refused_place
 use Rattle.playing.proofs.print_refused.Statement.{statement}
 use Rattle.playing.proofs.print_refused.Tie as tie
 
-abbrev invariant-loop : tie.invariant-loop
+abbrev invariant-loop : tie.invariant-loop-left
 invariant-loop records note out₀ at left₀ next₀ out left next = PrintedRefused note records out₀ at out left next
 
-abbrev decreases-loop : tie.decreases-loop
+abbrev decreases-loop : tie.decreases-loop-left
 decreases-loop records note out₀ at left₀ next₀ out left next = length left
 
-loop_again : tie.Need-loop-preserved invariant-loop decreases-loop
+loop_again : tie.Need-loop-left-preserved invariant-loop decreases-loop
 loop_again c =
-    let q = c.before.before.before in
-    let p = q.before.before in
-    let w = p.before.before in
-    let l = w.before.before.before in
-    refused_again _ _ _ _ _ _ _ l.before.loop.invariant l.loop-test.true _ w.value.ensures _ p.printed.ensures _ _ q.put.ensures.1 q.put.ensures.0
+    refused_again _ _ _ _ _ _ _ c.loop-left.invariant c.loop-left-test.true _ c.value-value.ensures _ c.printed-line.ensures _ _ c.put-next.ensures.1 c.put-next.ensures.0
 
 pub print_refused_spec : {M : Type 1} → statement M
 print_refused_spec =

@@ -7,37 +7,37 @@ use Rattle.playing.proofs.Laws.{Put, put_begins, put_again, put_ends}
 use Rattle.playing.proofs.put.Statement.{statement}
 use Rattle.playing.proofs.put.Tie as tie
 
-abbrev invariant-loop : tie.invariant-loop
+abbrev invariant-loop : tie.invariant-loop-i
 invariant-loop out₀ at line i₀ out i = Put out₀ at line i out
 
-abbrev decreases-loop : tie.decreases-loop
+abbrev decreases-loop : tie.decreases-loop-i
 decreases-loop out₀ at line i₀ out i = line.length - i
 
-loop_holds : tie.Need-loop-init invariant-loop decreases-loop
+loop_holds : tie.Need-loop-i-init invariant-loop decreases-loop
 loop_holds c = search (rules, put_begins)
 
-element_copy_out_out : tie.Need-element-copy-out-out invariant-loop decreases-loop
+element_copy_out_out : tie.Need-bounds-line-i invariant-loop decreases-loop
 element_copy_out_out c = search rules
 
-add_out : tie.Need-overflow-add-out invariant-loop decreases-loop
+add_out : tie.Need-overflow_add-out invariant-loop decreases-loop
 add_out c = search rules
 
-slice_write_out : tie.Need-slice-write-out invariant-loop decreases-loop
+slice_write_out : tie.Need-bounds-out-at invariant-loop decreases-loop
 slice_write_out c = search rules
 
-add_i : tie.Need-overflow-add-i invariant-loop decreases-loop
+add_i : tie.Need-overflow_add-i invariant-loop decreases-loop
 add_i c = search rules
 
-loop_less : tie.Need-loop-smaller invariant-loop decreases-loop
+loop_less : tie.Need-loop-i-smaller invariant-loop decreases-loop
 loop_less c = search rules
 
-loop_again : tie.Need-loop-preserved invariant-loop decreases-loop
+loop_again : tie.Need-loop-i-preserved invariant-loop decreases-loop
 loop_again c = search (rules, put_again)
 
-add_result : tie.Need-overflow-add-result invariant-loop decreases-loop
+add_result : tie.Need-overflow_add-result invariant-loop decreases-loop
 add_result c = search rules
 
-same_length : tie.Need-same-length invariant-loop decreases-loop
+same_length : tie.Need-shape_of-out invariant-loop decreases-loop
 same_length c = search rules
 
 returns : tie.Need-returns invariant-loop decreases-loop

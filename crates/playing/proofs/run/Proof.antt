@@ -6,29 +6,24 @@ use Rattle.playing.proofs.Groups.{Left, left_begins, to_last, to_stop, front_len
 use Rattle.playing.proofs.run.Statement.{statement}
 use Rattle.playing.proofs.run.Tie as tie
 
-abbrev invariant-loop : tie.invariant-loop
+abbrev invariant-loop : tie.invariant-loop-left
 invariant-loop tx₀ rx₀ records out₀ bridge₀ at₀ left₀ tx rx out bridge at left = Left bridge₀ tx₀ rx₀ records out₀ bridge tx rx out at left
 
-abbrev decreases-loop : tie.decreases-loop
+abbrev decreases-loop : tie.decreases-loop-left
 decreases-loop tx₀ rx₀ records out₀ bridge₀ at₀ left₀ tx rx out bridge at left = length left
 
-mul_n : tie.Need-overflow-mul-n invariant-loop decreases-loop
-mul_n c = let f = group_fits _ _ _ _ _ _ _ _ _ _ _ c.before.before.loop.invariant _ c.ahead.ensures in search rules
+mul_n : tie.Need-overflow_mul-n invariant-loop decreases-loop
+mul_n c = let f = group_fits _ _ _ _ _ _ _ _ _ _ _ c.loop-left.invariant _ c.ahead-n.ensures in search rules
 
-returns : tie.Need-returns invariant-loop decreases-loop
+returns : tie.Need-returns-then-n-eq0 invariant-loop decreases-loop
 returns c =
-    let s = c.before.before in
-    let a = s.before.before.before in
-    let i = a.before in
-    to_stop _ _ _ _ _ _ _ _ _ _ _ i.before.loop.invariant _ a.ahead.ensures (omega (arith, i.loop-test.true)) s.before.before.if1.true _ _
-    s.stop.ensures.0 s.stop.ensures.1
+    to_stop _ _ _ _ _ _ _ _ _ _ _ c.loop-left.invariant _ c.ahead-n.ensures (omega (arith, c.loop-left-test.true)) c.if-n-eq0.true _ _
+    c.stop.ensures.0 c.stop.ensures.1
 
-loop_again : tie.Need-loop-preserved invariant-loop decreases-loop
+loop_again : tie.Need-loop-left-preserved invariant-loop decreases-loop
 loop_again c =
-    let g = c.before.before.before.before.before.before.before.before in
-    let a = g.before.before.before.before.before.before in
-    let v = a.before.before.loop.invariant in
-    again _ _ _ _ _ _ _ _ _ _ _ v _ a.ahead.ensures _ _ _ _ g.group.ensures (search rules) (search rules) (search rules)
+    let v = c.loop-left.invariant in
+    again _ _ _ _ _ _ _ _ _ _ _ v _ c.ahead-n.ensures _ _ _ _ c.group-part.ensures (search rules) (search rules) (search rules)
 
 pub run_spec : {M : Type 1} → statement M
 run_spec =

@@ -5,10 +5,10 @@ use Rattle.pouring.proofs.Runs.{Still, still_begins, still_more}
 use Rattle.pouring.proofs.still.Statement.{statement}
 use Rattle.pouring.proofs.still.Tie as tie
 
-abbrev invariant-loop : tie.invariant-loop
+abbrev invariant-loop : tie.invariant-loop-k
 invariant-loop bridge start records results₀ from many k₀ results k = Still records many bridge from results₀ k start results
 
-abbrev decreases-loop : tie.decreases-loop
+abbrev decreases-loop : tie.decreases-loop-k
 decreases-loop bridge start records results₀ from many k₀ results k = many - k
 
 pub still_spec : {M : Type 1} → statement M

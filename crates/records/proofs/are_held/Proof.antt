@@ -3,10 +3,10 @@ use Rattle.std.proofs.Common.{◌-◌, ◌≤◌, rules}
 use Rattle.records.proofs.are_held.Statement.{statement}
 use Rattle.records.proofs.are_held.Tie as tie
 
-abbrev invariant-loop : tie.invariant-loop
+abbrev invariant-loop : tie.invariant-loop-i
 invariant-loop word held same₀ i₀ same i = i ≤ 12
 
-abbrev decreases-loop : tie.decreases-loop
+abbrev decreases-loop : tie.decreases-loop-i
 decreases-loop word held same₀ i₀ same i = 12 - i
 
 pub are_held_spec : {M : Type 1} → statement M

@@ -11,5 +11,5 @@ printed_spec =
     tie.close
     (tie.spec (λ c κs. search rules) (λ c κs. search rules) (λ c κs. search rules) (λ c κs. search rules) (λ c κs. search rules)
     (λ c κs. search rules) (λ c κs. search rules) (λ c κs. search rules) (λ c κs. search rules) (λ c κs. search rules)
-    (λ c κs. search rules) (λ c. pick_lt _ _ _ _ _ c.if1.true (cc)) (λ c κs. search rules)
-    (λ c. pick_not_lt _ _ _ _ _ c.before.if1.false (cc)))
+    (λ c κs. search rules) (λ c. pick_lt _ _ _ _ _ c.if-note-lt10.true (cc)) (λ c κs. search rules)
+    (λ c. pick_not_lt _ _ _ _ _ c.if-note-lt10.false (cc)))

@@ -21,7 +21,7 @@ entry_at_spec =
     (λ c. search rules)
     (λ c. search rules)
     (λ c. search rules)
-    (λ c. omega (arith, c.shared-slice-known4.given (c.before.before.before.before.before.args.at + 2)))
+    (λ c. omega (arith, c.shared_slice_known-4-1.given (c.args.at + 2)))
     (λ c. search rules)
     (λ c. search rules)
     (λ c κs. search rules)

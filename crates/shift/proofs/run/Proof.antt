@@ -10,26 +10,13 @@ use Rattle.shift.proofs.Laws.{offer_fits, less, Inv, begins, one_more, to_all, a
 use Rattle.shift.proofs.run.Statement.{statement}
 use Rattle.shift.proofs.run.Tie as tie
 
-abbrev invariant-loop : tie.invariant-loop
+abbrev invariant-loop : tie.invariant-loop-at
 invariant-loop tx₀ rx₀ chain₀ oldest cells budget shown₀ b₀ place₀ taken₀ ticks₀ at₀ tx rx chain shown b place taken ticks at =
     Inv cells budget (shifting shown₀ (moment b₀ tx₀ rx₀ chain₀ place₀) Taken 0 0) shown b tx rx chain place taken ticks at
 
-abbrev decreases-loop : tie.decreases-loop
+abbrev decreases-loop : tie.decreases-loop-at
 decreases-loop tx₀ rx₀ chain₀ oldest cells budget shown₀ b₀ place₀ taken₀ ticks₀ at₀ tx rx chain shown b place taken ticks at =
     length cells - at
-
--- from what a call-up left back to the call, and from the call to the loop's test
-abbrev call : tie.After-struct-known invariant-loop decreases-loop → tie.After-offer-entry invariant-loop decreases-loop
-call c = c.before.before.before.before.before.before.before
-
-abbrev test : tie.After-offer-entry invariant-loop decreases-loop → tie.In-loop invariant-loop decreases-loop
-test c = c.before.before.before.before.before
-
-abbrev taken : tie.After-b invariant-loop decreases-loop → tie.After-struct-known invariant-loop decreases-loop
-taken c = c.before.before.before.before
-
-abbrev stopped : tie.After-stopped invariant-loop decreases-loop → tie.After-struct-known invariant-loop decreases-loop
-stopped c = c.before.before.before
 
 pub run_spec : {M : Type 1} → statement M
 run_spec =
@@ -39,27 +26,25 @@ run_spec =
     (λ c κs. search rules)
     (λ c. search rules)
     (λ c κs. search rules)
-    (λ c. let v = (test (call c)).before.loop.inv in let e = (call c).offer-entry.ensures in search (rules, offer_fits))
+    (λ c. let v = c.loop-at.invariant in let e = c.offer_entry-offered.ensures in search (rules, offer_fits))
     (λ c κs. search rules)
-    (λ c. let l = test (call (taken c)) in let v = l.before.loop.inv in search (rules, one_more))
+    (λ c. let v = c.loop-at.invariant in search (rules, one_more))
     (λ c. search (rules, less))
     (λ c.
-    let o = call (taken c) in
-    let v = (test o).before.loop.inv in
-    let h = (test o).loop-test.taken in
-    let k = o.before.before.before.before.entry_at.ensures in
-    let e = o.offer-entry.ensures in
+    let v = c.loop-at.invariant in
+    let h = c.loop-at-test.true in
+    let k = c.entry_at-entry.ensures in
+    let e = c.offer_entry-offered.ensures in
     search (rules, again))
     (λ c κs. search rules)
-    (λ c. let o = call (stopped c) in let v = (test o).before.loop.inv in omega (arith, v.tx_is, o.offer-entry.kept))
-    (λ c. let o = call (stopped c) in let v = (test o).before.loop.inv in omega (arith, v.rx_is, o.offer-entry.kept))
-    (λ c. let o = call (stopped c) in let v = (test o).before.loop.inv in omega (arith, v.chain_is, o.offer-entry.kept))
+    (λ c. let v = c.loop-at.invariant in omega (arith, v.tx_is, c.offer_entry-offered.auto.tx))
+    (λ c. let v = c.loop-at.invariant in omega (arith, v.rx_is, c.offer_entry-offered.auto.rx))
+    (λ c. let v = c.loop-at.invariant in omega (arith, v.chain_is, c.offer_entry-offered.auto.chain))
     (λ c.
-    let o = call (stopped c) in
-    let v = (test o).before.loop.inv in
-    let h = (test o).loop-test.taken in
-    let k = o.before.before.before.before.entry_at.ensures in
-    let e = o.offer-entry.ensures in
+    let v = c.loop-at.invariant in
+    let h = c.loop-at-test.true in
+    let k = c.entry_at-entry.ensures in
+    let e = c.offer_entry-offered.ensures in
     search (rules, to_stopped))
     (λ c κs. search rules)
     (λ c. search rules)

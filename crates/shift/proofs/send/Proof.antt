@@ -11,10 +11,8 @@ send_spec =
     (λ c. search rules)
     (λ c κs. search rules)
     (λ c.
-    let w = c.before.before.before.before.before.before.before.before in
-    let s = w.before.before.before.before.before.before.before in
-    let e = w.wait.ensures in
-    let b = s.ranges.budget.fits in
+    let e = c.wait-sent.ensures in
+    let b = c.ranges.budget.fits in
     search (rules, sent_fits))
     (λ c. search rules)
     (λ c. search rules)

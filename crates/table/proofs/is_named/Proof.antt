@@ -3,10 +3,10 @@ use Rattle.std.proofs.Common.{◌-◌, rules}
 use Rattle.table.proofs.is_named.Statement.{statement}
 use Rattle.table.proofs.is_named.Tie as tie
 
-abbrev invariant-loop : tie.invariant-loop
+abbrev invariant-loop : tie.invariant-loop-k
 invariant-loop text name pattern k₀ k = Unit {0}
 
-abbrev decreases-loop : tie.decreases-loop
+abbrev decreases-loop : tie.decreases-loop-k
 decreases-loop text name pattern k₀ k = 64 - k
 
 pub is_named_spec : {M : Type 1} → statement M

@@ -3,10 +3,10 @@ use Rattle.std.proofs.Common.{◌-◌, ◌≤◌, rules}
 use Rattle.table.proofs.named.Statement.{statement}
 use Rattle.table.proofs.named.Tie as tie
 
-abbrev invariant-loop : tie.invariant-loop
+abbrev invariant-loop : tie.invariant-loop-at
 invariant-loop text name at₀ stop at = (at ≤ 65535) × (stop ≤ 65535)
 
-abbrev decreases-loop : tie.decreases-loop
+abbrev decreases-loop : tie.decreases-loop-at
 decreases-loop text name at₀ stop at = stop - at
 
 pub named_spec : {M : Type 1} → statement M

@@ -8,10 +8,10 @@ use Rattle.whole_night.proofs.Fits.{starts, to_moment, tx_kept, rx_kept}
 use Rattle.whole_night.proofs.run.Statement.{statement}
 use Rattle.whole_night.proofs.run.Tie as tie
 
-abbrev invariant-loop : tie.invariant-loop
+abbrev invariant-loop : tie.invariant-loop-k
 invariant-loop tx₀ rx₀ records many results₀ b₀ k₀ tx rx results b k = Gone records many 0 b₀ tx₀ rx₀ results₀ k b tx rx results
 
-abbrev decreases-loop : tie.decreases-loop
+abbrev decreases-loop : tie.decreases-loop-k
 decreases-loop tx₀ rx₀ records many results₀ b₀ k₀ tx rx results b k = many - k
 
 pub run_spec : {M : Type 1} → statement M

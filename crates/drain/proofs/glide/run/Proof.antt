@@ -6,10 +6,10 @@ use Rattle.drain.proofs.Hushed.{hush_begins, hush_more}
 use Rattle.drain.proofs.glide.run.Statement.{statement}
 use Rattle.drain.proofs.glide.run.Tie as tie
 
-abbrev invariant-loop : tie.invariant-loop
+abbrev invariant-loop : tie.invariant-loop-ticks
 invariant-loop bridge from budget hot₀ ticks₀ hot ticks = Hush budget bridge from ticks hot
 
-abbrev decreases-loop : tie.decreases-loop
+abbrev decreases-loop : tie.decreases-loop-ticks
 decreases-loop bridge from budget hot₀ ticks₀ hot ticks = budget - ticks
 
 pub run_spec : {M : Type 1} → statement M

@@ -6,10 +6,10 @@ use Rattle.night_parts.proofs.Hushed.{hush_begins, hush_more, hush_room, hush_re
 use Rattle.night_parts.proofs.quiet.run.Statement.{statement}
 use Rattle.night_parts.proofs.quiet.run.Tie as tie
 
-abbrev invariant-loop : tie.invariant-loop
+abbrev invariant-loop : tie.invariant-loop-k
 invariant-loop bridge records results₀ from many rests reach hot₀ k₀ results hot k = Hush records many bridge from results₀ k rests hot results
 
-abbrev decreases-loop : tie.decreases-loop
+abbrev decreases-loop : tie.decreases-loop-k
 decreases-loop bridge records results₀ from many rests reach hot₀ k₀ results hot k = many - k
 
 pub run_spec : {M : Type 1} → statement M

@@ -8,10 +8,10 @@ use Rattle.night_parts.proofs.Hushed.{hushed, unhushed_room, unhushed_tick}
 use Rattle.night_parts.proofs.ticking.ticks.Statement.{statement}
 use Rattle.night_parts.proofs.ticking.ticks.Tie as tie
 
-abbrev invariant-loop : tie.invariant-loop
+abbrev invariant-loop : tie.invariant-loop-k
 invariant-loop tx₀ rx₀ records results₀ from many b₀ k₀ tx rx results b k = Gone records many from b₀ tx₀ rx₀ results₀ k b tx rx results
 
-abbrev decreases-loop : tie.decreases-loop
+abbrev decreases-loop : tie.decreases-loop-k
 decreases-loop tx₀ rx₀ records results₀ from many b₀ k₀ tx rx results b k = many - k
 
 pub ticks_spec : {M : Type 1} → statement M
@@ -21,7 +21,7 @@ ticks_spec =
     (λ c. search (rules, tx_same)) (λ c. search (rules, rx_same)) (λ c. search rules) (λ c. search (rules, to_other))
     (λ c κs. search (rules, host_now, ahead)) (λ c κs. search rules) (λ c. search rules) (λ c. search (rules, hushed))
     (λ c κs. search (rules, record_now)) (λ c κs. search rules)
-    (λ c κs. let e = c.before.before.before.before.before.before.before.before.before in search (rules, unhushed_room))
-    (λ c. let e = c.before.before.before.before.before.before.before.before.before.before.before.before.before in search rules)
-    (λ c. let v = c.before.before.before.before.before.before.before.before.before.before.before.before.before.before.before.before.before.before.before.before.before.loop.invariant in let w = c.before.before.before.before.before.before.before.before.before.before.before.before.before.before.before.before.run.ensures in let l = c.before.before.before.before.before.before.before.before.before.before.before.before.before.if2.false in let h = c.before.before.before.before.before.before.before.before.before.before.before.before.before.before.before.before.before.before.before.before.loop-test.true in let x = c.before.before.before.before.before.before.before.before.before.before.before.before.before.before.before.before.before.before.before.kind_at.ensures in let i = c.before.before.before.before.before.before.before.before.before.before.before.before.before.before.before.before.before.before.if1.false in let n = c.before.before.before.before.before.before.before.before.before.before.before.before.bit_at.ensures in let o = c.before.before.before.before.before.before.before.before.before.turn.ensures in let u = c.before.before.before.put.ensures in search (rules, unhushed_tick))
+    (λ c κs. search (rules, unhushed_room))
+    (λ c. search rules)
+    (λ c. let v = c.loop-k.invariant in let w = c.run-g.ensures in let l = c.if-k-to.false in let h = c.loop-k-test.true in let x = c.kind_at.ensures in let i = c.if-kind_at-ne3.false in let n = c.bit_at-sin.ensures in let o = c.turn-answer.ensures in let u = c.put.ensures in search (rules, unhushed_tick))
     (λ c. search (rules, tx_same)) (λ c. search (rules, rx_same)) (λ c. search rules) (λ c. search (rules, to_last)))

@@ -10,10 +10,10 @@ use Rattle.night_parts.proofs.Moves.{move_again}
 use Rattle.night_parts.proofs.wording.words.Statement.{statement}
 use Rattle.night_parts.proofs.wording.words.Tie as tie
 
-abbrev invariant-loop : tie.invariant-loop
+abbrev invariant-loop : tie.invariant-loop-k
 invariant-loop tx₀ rx records results₀ from many b₀ k₀ tx results b k = Gone records many from b₀ tx₀ rx results₀ k b tx rx results
 
-abbrev decreases-loop : tie.decreases-loop
+abbrev decreases-loop : tie.decreases-loop-k
 decreases-loop tx₀ rx records results₀ from many b₀ k₀ tx results b k = many - k
 
 pub words_spec : {M : Type 1} → statement M
@@ -21,26 +21,26 @@ words_spec =
     tie.close
     (tie.spec invariant-loop decreases-loop (λ c. search (rules, begins)) (λ c. search rules) (λ c κs. search (rules, record_now)) (λ c κs. search rules)
     (λ c κs. search rules) (λ c κs. search rules)
-    (λ c κs. let v = c.before.before.before.before.before.before.before.before.before.loop.invariant in let h = c.before.before.before.before.before.before.before.before.loop-test.true in search (rules, room_now))
-    (λ c. let h = c.before.before.before.before.before.before.before.before.before.before.before.before.loop-test.true in search rules)
-    (λ c. let v = c.before.before.before.before.before.before.before.before.before.before.before.before.before.loop.invariant in let h = c.before.before.before.before.before.before.before.before.before.before.before.before.loop-test.true in let x = c.before.before.before.before.before.before.before.before.before.before.before.kind_at.ensures in let m = c.before.before.before.before.before.before.before.before.before.moved.ensures in let y = c.before.before.before.before.before.before.before.before.if1.true in let o = c.before.before.before.before.before.before.settled.ensures in let n = c.before.before.before.before.before.mark-after.ensures in let u = c.before.before.before.put.ensures in search (rules, move_again))
+    (λ c κs. let v = c.loop-k.invariant in let h = c.loop-k-test.true in search (rules, room_now))
+    (λ c. let h = c.loop-k-test.true in search rules)
+    (λ c. let v = c.loop-k.invariant in let h = c.loop-k-test.true in let x = c.kind_at-kind.ensures in let m = c.moved-m.ensures in let y = c.if-moves.true in let o = c.settled-settled.ensures in let n = c.mark_after-mark.ensures in let u = c.put.ensures in search (rules, move_again))
     (λ c. search (rules, tx_same)) (λ c. search rules) (λ c. search (rules, to_other)) (λ c κs. search (rules, record_now))
     (λ c κs. search (rules, host_now, ahead)) (λ c κs. search rules)
-    (λ c. let h = c.before.before.before.before.before.before.before.before.before.before.before.before.before.before.before.before.loop-test.true in let l = c.before.before.if3.true in search rules)
-    (λ c. let v = c.before.before.before.before.before.before.before.before.before.before.before.before.before.before.before.before.before.loop.invariant in let w = c.before.before.before.before.before.before.before.run.ensures in let l = c.before.before.if3.true in search (rules, poured_on_lem))
+    (λ c. let h = c.loop-k-test.true in let l = c.if-k-to.true in search rules)
+    (λ c. let v = c.loop-k.invariant in let w = c.run-g.ensures in let l = c.if-k-to.true in search (rules, poured_on_lem))
     (λ c. search rules) (λ c. search rules)
-    (λ c. let v = unpoured _ _ _ _ _ _ _ _ _ _ _ _ c.before.before.before.before.before.before.before.before.before.before.before.before.before.before.before.before.before.loop.invariant _ _ _ _ c.before.before.before.before.before.before.before.run.ensures c.before.before.if3.false in search (rules, rx_head))
-    (λ c κs. let v = unpoured _ _ _ _ _ _ _ _ _ _ _ _ c.before.before.before.before.before.before.before.before.before.before.before.before.before.before.before.before.before.loop.invariant _ _ _ _ c.before.before.before.before.before.before.before.run.ensures c.before.before.if3.false in search (rules, host_now))
+    (λ c. let v = unpoured _ _ _ _ _ _ _ _ _ _ _ _ c.loop-k.invariant _ _ _ _ c.run-g.ensures c.if-k-to.false in search (rules, rx_head))
+    (λ c κs. let v = unpoured _ _ _ _ _ _ _ _ _ _ _ _ c.loop-k.invariant _ _ _ _ c.run-g.ensures c.if-k-to.false in search (rules, host_now))
     (λ c κs. search rules)
-    (λ c κs. let v = unpoured _ _ _ _ _ _ _ _ _ _ _ _ c.before.before.before.before.before.before.before.before.before.before.before.before.before.before.before.before.before.before.before.before.loop.invariant _ _ _ _ c.before.before.before.before.before.before.before.before.before.before.run.ensures c.before.before.before.before.before.if3.false in let h = c.before.before.before.before.before.before.before.before.before.before.before.before.before.before.before.before.before.before.before.loop-test.true in search (rules, room_now))
-    (λ c κs. let v = unpoured _ _ _ _ _ _ _ _ _ _ _ _ c.before.before.before.before.before.before.before.before.before.before.before.before.before.before.before.before.before.before.before.before.before.before.before.before.loop.invariant _ _ _ _ c.before.before.before.before.before.before.before.before.before.before.before.before.before.before.run.ensures c.before.before.before.before.before.before.before.before.before.if3.false in search (rules, tx_fits))
+    (λ c κs. let v = unpoured _ _ _ _ _ _ _ _ _ _ _ _ c.loop-k.invariant _ _ _ _ c.run-g.ensures c.if-k-to.false in let h = c.loop-k-test.true in search (rules, room_now))
+    (λ c κs. let v = unpoured _ _ _ _ _ _ _ _ _ _ _ _ c.loop-k.invariant _ _ _ _ c.run-g.ensures c.if-k-to.false in search (rules, tx_fits))
     (λ c κs. search rules)
-    (λ c κs. performable _ _ _ _ _ _ _ _ _ _ _ _ (unpoured _ _ _ _ _ _ _ _ _ _ _ _ c.before.before.before.before.before.before.before.before.before.before.before.before.before.before.before.before.before.before.before.before.before.before.before.before.before.before.before.before.before.loop.invariant _ _ _ _ c.before.before.before.before.before.before.before.before.before.before.before.before.before.before.before.before.before.before.before.run.ensures c.before.before.before.before.before.before.before.before.before.before.before.before.before.before.if3.false) _ _ c.before.before.before.before.before.before.before.before.before.before.before.planned.ensures)
-    (λ c. let h = c.before.before.before.before.before.before.before.before.before.before.before.before.before.before.before.before.before.before.before.before.before.before.before.before.before.before.before.before.before.loop-test.true in search rules)
-    (λ c. let v = unpoured _ _ _ _ _ _ _ _ _ _ _ _ c.before.before.before.before.before.before.before.before.before.before.before.before.before.before.before.before.before.before.before.before.before.before.before.before.before.before.before.before.before.before.loop.invariant _ _ _ _ c.before.before.before.before.before.before.before.before.before.before.before.before.before.before.before.before.before.before.before.before.run.ensures c.before.before.before.before.before.before.before.before.before.before.before.before.before.before.before.if3.false in let h = c.before.before.before.before.before.before.before.before.before.before.before.before.before.before.before.before.before.before.before.before.before.before.before.before.before.before.before.before.before.loop-test.true in let x = c.before.before.before.before.before.before.before.before.before.before.before.before.before.before.before.before.before.before.before.before.before.before.before.before.before.before.before.before.kind_at.ensures in let i = c.before.before.before.before.before.before.before.before.before.before.before.before.before.before.before.before.before.before.before.before.before.before.before.before.if2.false in let r = c.before.before.before.before.before.before.before.before.before.before.before.before.before.before.before.before.before.before.before.before.before.before.before.value-at.ensures in let p = c.before.before.before.before.before.before.before.before.before.before.before.before.planned.ensures in let m = c.before.before.before.before.before.before.before.before.before.before.before.marked.ensures in let u = c.before.before.before.before.before.before.before.before.before.put2.ensures in let t = c.before.before.before.before.before.write_cell.ensures in let d = c.performed.ensures in search (rules, word_done))
-    (λ c κs. let v = unpoured _ _ _ _ _ _ _ _ _ _ _ _ c.before.before.before.before.before.before.before.before.before.before.before.before.before.before.before.before.before.before.before.before.before.before.before.before.before.before.before.before.before.before.loop.invariant _ _ _ _ c.before.before.before.before.before.before.before.before.before.before.before.before.before.before.before.before.before.before.before.before.run.ensures c.before.before.before.before.before.before.before.before.before.before.before.before.before.before.before.if3.false in search (rules, tx_few))
-    (λ c κs. let v = unpoured _ _ _ _ _ _ _ _ _ _ _ _ c.before.before.before.before.before.before.before.before.before.before.before.before.before.before.before.before.before.before.before.before.before.before.before.before.before.before.before.before.before.before.before.loop.invariant _ _ _ _ c.before.before.before.before.before.before.before.before.before.before.before.before.before.before.before.before.before.before.before.before.before.run.ensures c.before.before.before.before.before.before.before.before.before.before.before.before.before.before.before.before.if3.false in search (rules, rx_fits))
+    (λ c κs. performable _ _ _ _ _ _ _ _ _ _ _ _ (unpoured _ _ _ _ _ _ _ _ _ _ _ _ c.loop-k.invariant _ _ _ _ c.run-g.ensures c.if-k-to.false) _ _ c.planned-plan.ensures)
+    (λ c. let h = c.loop-k-test.true in search rules)
+    (λ c. let v = unpoured _ _ _ _ _ _ _ _ _ _ _ _ c.loop-k.invariant _ _ _ _ c.run-g.ensures c.if-k-to.false in let h = c.loop-k-test.true in let x = c.kind_at-kind.ensures in let i = c.if-kind-ne1.false in let r = c.value_at-word.ensures in let p = c.planned-plan.ensures in let m = c.marked-clock.ensures in let u = c.put-in-loop-k.ensures in let t = c.write_cell.ensures in let d = c.performed-b.ensures in search (rules, word_done))
+    (λ c κs. let v = unpoured _ _ _ _ _ _ _ _ _ _ _ _ c.loop-k.invariant _ _ _ _ c.run-g.ensures c.if-k-to.false in search (rules, tx_few))
+    (λ c κs. let v = unpoured _ _ _ _ _ _ _ _ _ _ _ _ c.loop-k.invariant _ _ _ _ c.run-g.ensures c.if-k-to.false in search (rules, rx_fits))
     (λ c κs. search rules) (λ c κs. search rules) (λ c κs. search rules)
-    (λ c. let h = c.before.before.before.before.before.before.before.before.before.before.before.before.before.before.before.before.before.before.before.before.before.before.before.before.before.before.before.before.before.before.before.before.before.before.before.loop-test.true in search rules)
-    (λ c. let v = unpoured _ _ _ _ _ _ _ _ _ _ _ _ c.before.before.before.before.before.before.before.before.before.before.before.before.before.before.before.before.before.before.before.before.before.before.before.before.before.before.before.before.before.before.before.before.before.before.before.before.loop.invariant _ _ _ _ c.before.before.before.before.before.before.before.before.before.before.before.before.before.before.before.before.before.before.before.before.before.before.before.before.before.before.run.ensures c.before.before.before.before.before.before.before.before.before.before.before.before.before.before.before.before.before.before.before.before.before.if3.false in let h = c.before.before.before.before.before.before.before.before.before.before.before.before.before.before.before.before.before.before.before.before.before.before.before.before.before.before.before.before.before.before.before.before.before.before.before.loop-test.true in let x = c.before.before.before.before.before.before.before.before.before.before.before.before.before.before.before.before.before.before.before.before.before.before.before.before.before.before.before.before.before.before.before.before.before.before.kind_at.ensures in let i = c.before.before.before.before.before.before.before.before.before.before.before.before.before.before.before.before.before.before.before.before.before.before.before.before.before.before.before.before.before.before.if2.false in let r = c.before.before.before.before.before.before.before.before.before.before.before.before.before.before.before.before.before.before.before.before.before.before.before.before.before.before.before.before.before.value-at.ensures in let p = c.before.before.before.before.before.before.before.before.before.before.before.before.before.before.before.before.before.before.planned.ensures in let m = c.before.before.before.before.before.before.before.before.before.before.before.before.before.before.before.before.before.marked.ensures in let u = c.before.before.before.before.before.before.before.before.before.before.before.before.before.before.before.put2.ensures in let t = c.before.before.before.before.before.before.before.before.before.before.before.write_cell.ensures in let a = c.before.before.before.before.before.before.before.before.acts.ensures in let f = c.before.before.before.before.before.before.before.if4.false in let n = c.before.before.before.before.before.count-after.ensures in let g = c.before.before.before.before.received.ensures in let o = c.before.before.before.settled2.ensures in let d = c.before.before.concluded.ensures in let e = c.before.xmodem-after.ensures in search (rules, word_left))
+    (λ c. let h = c.loop-k-test.true in search rules)
+    (λ c. let v = unpoured _ _ _ _ _ _ _ _ _ _ _ _ c.loop-k.invariant _ _ _ _ c.run-g.ensures c.if-k-to.false in let h = c.loop-k-test.true in let x = c.kind_at-kind.ensures in let i = c.if-kind-ne1.false in let r = c.value_at-word.ensures in let p = c.planned-plan.ensures in let m = c.marked-clock.ensures in let u = c.put-in-loop-k.ensures in let t = c.write_cell.ensures in let a = c.acts.ensures in let f = c.if-acts.false in let n = c.count_after-count.ensures in let g = c.received-receiving.ensures in let o = c.settled-control.ensures in let d = c.concluded-ended.ensures in let e = c.xmodem_after-xmodem.ensures in search (rules, word_left))
     (λ c. search (rules, tx_same)) (λ c. search rules) (λ c. search (rules, to_last)))

@@ -3,10 +3,10 @@ use Rattle.std.proofs.Common.{◌-◌, ◌≤◌, rules}
 use Rattle.order_lines.proofs.items.read_items.Statement.{statement}
 use Rattle.order_lines.proofs.items.read_items.Tie as tie
 
-abbrev invariant-loop : tie.invariant-loop
+abbrev invariant-loop : tie.invariant-loop-at
 invariant-loop text end fields₀ words₀ command count₀ fields-end₀ from₀ to₀ at₀ fields words count fields-end from to at = count ≤ at
 
-abbrev decreases-loop : tie.decreases-loop
+abbrev decreases-loop : tie.decreases-loop-at
 decreases-loop text end fields₀ words₀ command count₀ fields-end₀ from₀ to₀ at₀ fields words count fields-end from to at = end - at
 
 pub read_items_spec : {M : Type 1} → statement M

@@ -7,4 +7,4 @@ use Rattle.state.proofs.Bridge.bad_in.Tie as tie
 
 pub bad_in_spec : {M : Type 1} → statement M
 unfolding bad_control no_place
-bad_in_spec = tie.close (tie.spec (λ c κs. search rules) (λ c. to_bad _ _ c.before.before.power-up-control.ensures))
+bad_in_spec = tie.close (tie.spec (λ c κs. search rules) (λ c. to_bad _ _ c.before.before.power_up_control-good.ensures))
