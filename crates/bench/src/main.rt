@@ -1,77 +1,82 @@
 // The bench program (01 The bench program): runs the events of a script, from standard input or from the file that its argument names, and
 // prints a line for each. It only reads and writes: what is printed is `playing`'s.
-use libc::{STDIN_FILENO, STDOUT_FILENO};
+
+#![tactic(auto)]
+
 use state::Bridge;
+use std::io;
+use std::io::Read;
 
 // Whether there may be more of the script.
-#[derive(Drop)]
+#[derive(Clone, Copy)]
 struct Went {
     bridge: Bridge,
     on: bool,
 }
 
 // Reads 1,024 records or what is left, and prints what they print. Each of those records has room for its line.
-fn play_some(fd: i32, start: Bridge, tx: &mut [u16], rx: &mut [u16]) -> Went {
+fn play_some(
+    rt: &impl Print,
+    script: &mut impl Read,
+    start: Bridge,
+    tx: &mut [u16],
+    rx: &mut [u16],
+) -> io::Result<Went> {
     let mut input = [0u8; 3072];
-    let n = io::read_full(fd, &mut input);
+    let n = console::read_full(script, &mut input)?;
     let mut out = [0u8; 17419];
     let part = playing::play(start, tx, rx, &input[0..n], &mut out);
     let length = part.length;
     let bridge = part.bridge;
     if length <= 17419 {
-        io::write_all(STDOUT_FILENO, &out[0..length]);
+        rt.write_all(&out[0..length])?;
     }
     let full = n == 3072;
-    Went {
+    Ok(Went {
         bridge: bridge,
         on: part.on & full,
-    }
+    })
 }
 
-// A proved loop has to end, and nothing says that a script does: it counts down from a number that no script uses up.
-fn play_all(fd: i32, start: Bridge) {
+// A proved loop has to end, and nothing says that a script does: it counts up to a number of turns that no script needs.
+fn play_all(rt: &impl Print, script: &mut impl Read, start: Bridge) -> io::Result<()> {
     let mut tx = [0u16; 512];
     let mut rx = [0u16; 256];
     let mut bridge = start;
-    let mut turns = u64::MAX;
-    while turns > 0 {
-        let went = play_some(fd, bridge, &mut tx, &mut rx);
+    for _ in 0..u64::MAX {
+        let went = play_some(rt, script, bridge, &mut tx, &mut rx)?;
         if !went.on {
-            return;
+            return Ok(());
         }
         bridge = went.bridge;
-        turns = turns - 1;
     }
+    Ok(())
 }
 
-fn run(fd: i32) {
+fn run(rt: &impl Print, script: &mut impl Read) -> io::Result<()> {
     let mut head = [0u8; 5];
-    let n = io::read_full(fd, &mut head);
+    let n = console::read_full(script, &mut head)?;
     let mut out = [0u8; 11];
     let part = playing::begin(&head[0..n], &mut out);
     let length = part.length;
     let bridge = part.bridge;
     if part.on {
-        play_all(fd, bridge);
-        return;
+        return play_all(rt, script, bridge);
     }
     if length <= 11 {
-        io::write_all(STDOUT_FILENO, &out[0..length]);
+        rt.write_all(&out[0..length])?;
     }
+    Ok(())
 }
 
-fn main() {
-    if os::arg_count() < 2 {
-        run(STDIN_FILENO);
-        return;
+fn main(rt: HostRuntime) -> io::Result<()> {
+    let mut path = [0u8; 4096];
+    let Some(length) = console::argument(&rt, 1, &mut path) else {
+        return run(&rt, &mut rt.stdin());
+    };
+    let name = &path[..length];
+    match console::open(&rt, name) {
+        Ok(mut file) => run(&rt, &mut file),
+        Err(error) => console::fail(&rt.stderr(), rt.alloc(), name, &error),
     }
-    let mut path = io::buffer();
-    let length = os::arg(1, &mut path);
-    let fd = os::open_read(&path[..length]);
-    if fd < 0 {
-        os::fail(&path[..length]);
-        return;
-    }
-    run(fd);
-    libc::close(fd);
 }

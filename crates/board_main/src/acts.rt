@@ -11,9 +11,10 @@ use frames::Order;
 use line::{Ear, Found};
 use registers::Regs;
 use state::Bridge;
+use std::io;
 
 // `ear` is the reader on SOUT.
-#[derive(Drop)]
+#[derive(Clone, Copy)]
 pub struct Night {
     pub board: Board,
     pub bridge: Bridge,
@@ -39,58 +40,65 @@ fn is_end(found: Found) -> bool {
 }
 
 // What a tick left, and the bit that went out.
-fn went(night: Night, bridge: Bridge, oldest: usize, bit: bool) -> Night {
+fn went(
+    rt: &impl Print,
+    night: Night,
+    bridge: Bridge,
+    oldest: usize,
+    bit: bool,
+) -> io::Result<Night> {
     let board = night.board;
     let ear = night.ear;
     let heard = line::hear(ear, bit);
     let found = heard.found;
     let onward = heard.ear;
-    let mut desk = ticked(night.desk, oldest, bit);
+    let mut desk = ticked(rt, night.desk, oldest, bit)?;
     if is_end(found) {
-        desk = ended(desk);
+        desk = ended(rt, desk)?;
     }
-    Night {
+    Ok(Night {
         board: board,
         bridge: bridge,
         ear: onward,
         desk: desk,
-    }
+    })
 }
 
-fn waited(night: Night, left: Waited) -> Night {
+fn waited(rt: &impl Print, night: Night, left: Waited) -> io::Result<Night> {
     if left.ticks == 0 {
         let desk = met(night.desk);
         let mut after = night;
         after.desk = desk;
-        return after;
+        return Ok(after);
     }
     let bridge = left.bridge;
-    went(night, bridge, left.oldest, left.sout)
+    went(rt, night, bridge, left.oldest, left.sout)
 }
 
-fn called(night: Night, left: Called) -> Night {
+fn called(rt: &impl Print, night: Night, left: Called) -> io::Result<Night> {
     let board = left.board;
     let bridge = left.bridge;
     let verdict = left.verdict;
     let ear = night.ear;
     let control = bridge.control;
     let mut desk = tell_call_up(
+        rt,
         night.desk,
         text_of(verdict, control),
         verdict::number(verdict),
         queue::in_use(bridge.sending.queue),
         bridge.sending.tx.count,
-    );
+    )?;
     if verdict::is_taken(verdict) {
         desk = taken(desk);
     }
     desk.act = BLANK;
-    Night {
+    Ok(Night {
         board: board,
         bridge: bridge,
         ear: ear,
         desk: desk,
-    }
+    })
 }
 
 // What a frame or a clock reading left.
@@ -192,20 +200,21 @@ fn call_up(night: Night, words: &[u16], tx: &mut [u16], rx: &mut [u16]) -> Calle
 }
 
 pub fn act(
+    rt: &impl Print,
     night: Night,
     words: &[u16],
     tx: &mut [u16],
     rx: &mut [u16],
     chain: &mut [bool],
-) -> Night {
+) -> io::Result<Night> {
     let bridge = night.bridge;
     let desk = night.desk;
     let act = desk.act;
     let n = least(desk.words as usize, words.len());
     match act {
-        BLANK => night,
-        TICK | CALL | END => waited(night, on_line(bridge, desk, n, tx, rx, chain)),
-        GIVE => called(night, call_up(night, &words[0..n], tx, rx)),
-        _ => done(night, by_host(bridge, desk, tx, rx)),
+        BLANK => Ok(night),
+        TICK | CALL | END => waited(rt, night, on_line(bridge, desk, n, tx, rx, chain)),
+        GIVE => called(rt, night, call_up(night, &words[0..n], tx, rx)),
+        _ => Ok(done(night, by_host(bridge, desk, tx, rx))),
     }
 }

@@ -1,12 +1,13 @@
 // What is under way, and what became of the call-ups: the numbers of the night.
 use crate::out::{BITS, LATE, LINE_END, NO_SHIFT, ONE, SHOWN, TWO_SHIFTS, ZERO, say, tell};
 use crate::said::{BLANK, CALL, DELAYED, END, Line, SHIFT, TICK};
+use std::io;
 
 // `at` and `number`: where the next line begins, and the last one's number. `act` is what is to be done for the line in hand, whose numbers are
 // `first` and `second`, with `words` words. `shift`: one is on, and `left` ticks are left to it. `oldest` is the chain's place, and `ends` counts
 // the ENDs on SOUT. `bits` are asked for, and a line of them is `begun`. `due` and `slots`: number and slot of the last eight call-ups taken, by how
 // many were taken before, modulo 8; of those not yet shown there are four at most, since each has a place of the queue for its VSYNC.
-#[derive(Drop)]
+#[derive(Clone, Copy)]
 pub struct Desk {
     pub at: usize,
     pub number: u64,
@@ -59,13 +60,13 @@ pub fn clean(bits: bool) -> Desk {
 }
 
 // Before each line that is printed: the bits since the last one end.
-pub fn fresh(desk: Desk) -> Desk {
+pub fn fresh(rt: &impl Print, desk: Desk) -> io::Result<Desk> {
     if desk.begun {
-        say(LINE_END);
+        say(rt, LINE_END)?;
     }
     let mut after = desk;
     after.begun = false;
-    after
+    Ok(after)
 }
 
 // Why a line does not stand where it may, or 0.
@@ -110,47 +111,55 @@ pub fn started(desk: Desk, line: Line) -> Desk {
     after
 }
 
-fn print_bit(desk: Desk, bit: bool) -> Desk {
+fn print_bit(rt: &impl Print, desk: Desk, bit: bool) -> io::Result<Desk> {
     if !desk.bits {
-        return desk;
+        return Ok(desk);
     }
     if !desk.begun {
-        say(BITS);
+        say(rt, BITS)?;
     }
-    say(if bit { ONE } else { ZERO });
+    say(rt, if bit { ONE } else { ZERO })?;
     let mut after = desk;
     after.begun = true;
-    after
+    Ok(after)
 }
 
 // A tick: of those that a line `tick` asks for, or of the shift's.
-pub fn ticked(desk: Desk, oldest: usize, bit: bool) -> Desk {
-    let mut after = print_bit(desk, bit);
+pub fn ticked(rt: &impl Print, desk: Desk, oldest: usize, bit: bool) -> io::Result<Desk> {
+    let mut after = print_bit(rt, desk, bit)?;
     after.oldest = oldest;
     after.ticks = std::num::wrapping_add_u64(desk.ticks, 1);
     if desk.act != TICK {
         after.left = std::num::wrapping_sub_u64(desk.left, 1);
-        return after;
+        return Ok(after);
     }
     let more = std::num::wrapping_sub_u64(desk.first, 1);
     after.first = more;
     if more == 0 {
         after.act = BLANK;
     }
-    after
+    Ok(after)
 }
 
 // An END on SOUT. Two commands a call-up, in the order of taking: with the second it is shown.
-pub fn ended(desk: Desk) -> Desk {
+pub fn ended(rt: &impl Print, desk: Desk) -> io::Result<Desk> {
     let ends = std::num::wrapping_add_u64(desk.ends, 1);
     let place = (std::num::wrapping_sub_u64(ends / 2, 1) % 8) as usize;
     let mut after = desk;
     if ends % 2 == 0 {
-        after = fresh(desk);
-        tell(SHOWN, desk.ticks, desk.due[place], desk.slots[place], 0, 0);
+        after = fresh(rt, desk)?;
+        tell(
+            rt,
+            SHOWN,
+            desk.ticks,
+            desk.due[place],
+            desk.slots[place],
+            0,
+            0,
+        )?;
     }
     after.ends = ends;
-    after
+    Ok(after)
 }
 
 // Nothing to wait for any more: a call-up is given, a shift is over.

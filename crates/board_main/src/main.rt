@@ -1,5 +1,8 @@
 // The call-up board for the shift (02 item 13): reads a night as text and prints what became of each call-up, and the panel (docs/BOARD.md). Taking,
 // refusing and waiting are `board`'s and `chain`'s.
+
+#![tactic(auto)]
+
 mod acts;
 mod desk;
 mod out;
@@ -9,86 +12,100 @@ mod told;
 
 use acts::Night;
 use desk::{Desk, OVER};
-use libc::{STDERR_FILENO, STDIN_FILENO};
 use order_lines::Text;
 use said::{BLANK, END};
+use std::io;
+use std::io::Read;
 
 // The next line, once the one in hand is done. The end of the text ends a shift too.
-fn next(desk: Desk, text: &Text, size: usize, words: &mut [u16]) -> Desk {
+fn next(
+    rt: &impl Print,
+    desk: Desk,
+    text: &Text,
+    size: usize,
+    words: &mut [u16],
+) -> io::Result<Desk> {
     let at = desk.at;
     let mut after = desk;
     if desk.act != BLANK {
-        return desk;
+        return Ok(desk);
     }
     if size <= at {
         after.act = if desk.shift { END } else { OVER };
-        return after;
+        return Ok(after);
     }
     let end = order_lines::find(text, at, size, b'\n');
     let line = said::read(text, at, order_lines::words_end(text, at, end), words);
     after.at = std::num::wrapping_add_usize(end, 1);
     after.number = std::num::wrapping_add_u64(desk.number, 1);
     if line.wrong != 0 {
-        return told::bad(after, text, line.wrong, line.from, line.to);
+        return told::bad(rt, after, text, line.wrong, line.from, line.to);
     }
     let wrong = desk::misplaced(line.name, desk.shift, desk.ticks);
     if wrong != 0 {
-        return told::bad(after, text, wrong, 0, 0);
+        return told::bad(rt, after, text, wrong, 0, 0);
     }
-    desk::started(after, line)
+    Ok(desk::started(after, line))
 }
 
 fn is_over(night: Night) -> bool {
     night.desk.act == OVER
 }
 
-fn read_on(night: Night, text: &Text, size: usize, words: &mut [u16]) -> Night {
-    let desk = next(night.desk, text, size, words);
+fn read_on(
+    rt: &impl Print,
+    night: Night,
+    text: &Text,
+    size: usize,
+    words: &mut [u16],
+) -> io::Result<Night> {
+    let desk = next(rt, night.desk, text, size, words)?;
     let mut after = night;
     after.desk = desk;
-    after
+    Ok(after)
 }
 
-// A proved loop has to end: it counts down from a number of acts that no text of 1 MiB asks for.
-fn walk(text: &Text, size: usize, bits: bool) -> Night {
+// A proved loop has to end: it counts up to a number of acts that no text of 1 MiB asks for.
+fn walk(rt: &impl Print, text: &Text, size: usize, bits: bool) -> io::Result<Night> {
     let mut tx = [0u16; 512];
     let mut rx = [0u16; 256];
     let mut chain = [true; 4096];
     let mut words = [0u16; 31];
     let mut night = acts::begin(bits);
-    let mut turns = u64::MAX;
-    while 0 < turns {
-        turns = turns - 1;
-        night = read_on(night, text, size, &mut words);
+    for _ in 0..u64::MAX {
+        night = read_on(rt, night, text, size, &mut words)?;
         if is_over(night) {
-            return night;
+            return Ok(night);
         }
-        night = acts::act(night, &words, &mut tx, &mut rx, &mut chain);
+        night = acts::act(rt, night, &words, &mut tx, &mut rx, &mut chain)?;
     }
-    night
+    Ok(night)
 }
 
 // How many bytes there are.
-fn text_read(text: &mut Text) -> usize {
-    io::read_full(STDIN_FILENO, text)
+fn text_read(input: &mut impl Read, text: &mut Text) -> io::Result<usize> {
+    console::read_full(input, text)
 }
 
-fn main() {
+// The night, and what stands at its end.
+fn told_whole(rt: &impl Print, text: &Text, size: usize, bits: bool) -> io::Result<()> {
+    let night = walk(rt, text, size, bits)?;
+    panel::tell_end(rt, night)
+}
+
+fn main(rt: HostRuntime) -> io::Result<()> {
     let mut text = [0u8; 1048577];
-    let n = text_read(&mut text);
-    if os::errno() != 0 {
-        os::fail(b"standard input");
-        return;
-    }
+    let errors = rt.stderr();
+    let n = match text_read(&mut rt.stdin(), &mut text) {
+        Ok(n) => n,
+        Err(error) => return console::fail(&errors, rt.alloc(), b"standard input", &error),
+    };
     if 1048576 < n {
-        io::write_all(
-            STDERR_FILENO,
-            b"expected at most 1 MiB (1048576 bytes) of text, found more\n",
-        );
-        return;
+        return errors.write_all(b"expected at most 1 MiB (1048576 bytes) of text, found more\n");
     }
-    panel::tell_end(walk(&text, n, 1 < os::arg_count()));
-    if os::errno() != 0 {
-        os::fail(b"standard output");
+    let bits = console::argument(&rt, 1, &mut [0u8; 16]).is_some();
+    match told_whole(&rt, &text, n, bits) {
+        Ok(()) => Ok(()),
+        Err(error) => console::fail(&errors, rt.alloc(), b"standard output", &error),
     }
 }

@@ -1,7 +1,7 @@
 // What is printed: texts of one list, with numbers in them.
 ghost use Rattle.std.specs.Prelude.{◌≤◌, length};
 
-use libc::STDOUT_FILENO;
+use std::io;
 
 // Bits of the line.
 pub const ZERO: usize = 0;
@@ -84,8 +84,8 @@ pub const CALL_UPS: usize = 38;
 
 pub const LINES_AND_TICKS: usize = 39;
 
-pub fn print(text: &[u8]) {
-    io::write_all(STDOUT_FILENO, text);
+pub fn print(rt: &impl Print, text: &[u8]) -> io::Result<()> {
+    rt.write_all(text)
 }
 
 // The next sign of a list, or its end: % is a number, & and # one in 3 and in 5 places, @ four hex digits, ^ a number that is left out, $ an s unless the
@@ -124,29 +124,28 @@ fn hex(n: u64) -> u8 {
     d - 10 + b'A'
 }
 
-fn value(sign: u8, n: u64) {
+fn value(rt: &impl Print, sign: u8, n: u64) -> io::Result<()> {
     match sign {
-        b'%' => {
-            io::print_decimal(STDOUT_FILENO, n);
-        }
-        b'&' => print(&[b' ', digit(n, 10), digit(n, 1)]),
-        b'#' => print(&[
-            digit(n, 10000),
-            digit(n, 1000),
-            digit(n, 100),
-            digit(n, 10),
-            digit(n, 1),
-        ]),
-        b'@' => print(&[hex(n / 4096), hex(n / 256), hex(n / 16), hex(n)]),
-        b'$' => if n != 1 {
-            print(b"s");
-        },
-        _ => {}
+        b'%' => print!(rt; "{n}"),
+        b'&' => print(rt, &[b' ', digit(n, 10), digit(n, 1)]),
+        b'#' => print(
+            rt,
+            &[
+                digit(n, 10000),
+                digit(n, 1000),
+                digit(n, 100),
+                digit(n, 10),
+                digit(n, 1),
+            ],
+        ),
+        b'@' => print(rt, &[hex(n / 4096), hex(n / 256), hex(n / 16), hex(n)]),
+        b'$' => if n != 1 { print(rt, b"s") } else { Ok(()) },
+        _ => Ok(()),
     }
 }
 
 // The text of this number, from 0 on.
-fn filled(list: &[u8], number: usize, values: [u64; 5]) {
+fn filled(rt: &impl Print, list: &[u8], number: usize, values: [u64; 5]) -> io::Result<()> {
     let mut left = number;
     let mut k: usize = 4;
     let mut from: usize = 0;
@@ -154,24 +153,34 @@ fn filled(list: &[u8], number: usize, values: [u64; 5]) {
     while to < list.len() {
         let mark = list[to];
         if left == 0 {
-            print(&list[from..to]);
+            print(rt, &list[from..to])?;
             if mark == b'~' {
-                return;
+                return Ok(());
             }
             if mark != b'$' {
                 k = std::num::wrapping_add_usize(k, 1);
             }
-            value(mark, values[k % 5]);
+            value(rt, mark, values[k % 5])?;
         } else if mark == b'~' {
             left = left - 1;
         }
         from = to + 1;
         to = sign(list, from);
     }
+    Ok(())
 }
 
-pub fn tell(text: usize, a: u64, b: u64, c: u64, d: u64, e: u64) {
+pub fn tell(
+    rt: &impl Print,
+    text: usize,
+    a: u64,
+    b: u64,
+    c: u64,
+    d: u64,
+    e: u64,
+) -> io::Result<()> {
     filled(
+        rt,
         b"0~1~line ~\n~\
         tick %: call-up %, slot %, reading %, % word$: ~\
         taken\n~\
@@ -203,9 +212,9 @@ pub fn tell(text: usize, a: u64, b: u64, c: u64, d: u64, e: u64) {
         % bad line$; % tick$\n~",
         text,
         [a, b, c, d, e],
-    );
+    )
 }
 
-pub fn say(text: usize) {
-    tell(text, 0, 0, 0, 0, 0);
+pub fn say(rt: &impl Print, text: usize) -> io::Result<()> {
+    tell(rt, text, 0, 0, 0, 0, 0)
 }

@@ -6,6 +6,7 @@ use crate::out::{
     UPPER, UPPER_EMPTY, say, tell,
 };
 use board::{Board, Slot};
+use std::io;
 
 // By how many words it has.
 fn text_of(count: u16, lower: bool) -> usize {
@@ -20,49 +21,54 @@ fn text_of(count: u16, lower: bool) -> usize {
     if count == 0 { UPPER_EMPTY } else { UPPER }
 }
 
-fn tell_slot(number: u64, slot: Slot, lower: bool) {
+fn tell_slot(rt: &impl Print, number: u64, slot: Slot, lower: bool) -> io::Result<()> {
     let text = text_of(slot.count, lower);
     if lower {
         let more = std::num::wrapping_sub_u16(slot.count, 1);
-        tell(text, slot.words[0] as u64, more as u64, 0, 0, 0);
-        return;
+        return tell(rt, text, slot.words[0] as u64, more as u64, 0, 0, 0);
     }
-    tell(text, number, slot.reading as u64, 0, 0, 0);
+    tell(rt, text, number, slot.reading as u64, 0, 0, 0)
 }
 
 // A row's upper or lower line.
-fn tell_line(board: Board, first: usize, lower: bool) {
+fn tell_line(rt: &impl Print, board: Board, first: usize, lower: bool) -> io::Result<()> {
     let slots = board.slots;
-    let mut i: usize = 0;
-    while i < 8 {
+    for i in 0..8usize {
         let number = std::num::wrapping_add_usize(first, i) % 40;
-        tell_slot(number as u64, slots[number], lower);
-        i = i + 1;
+        tell_slot(rt, number as u64, slots[number], lower)?;
     }
-    say(ROW);
+    say(rt, ROW)
 }
 
-fn tell_panel(board: Board) {
-    let mut first: usize = 0;
-    say(LINE_END);
-    say(RULE);
-    while first < 40 {
-        tell_line(board, first, false);
-        tell_line(board, first, true);
-        say(RULE);
-        first = first + 8;
+fn tell_panel(rt: &impl Print, board: Board) -> io::Result<()> {
+    say(rt, LINE_END)?;
+    say(rt, RULE)?;
+    for row in 0..5usize {
+        let first = row * 8;
+        tell_line(rt, board, first, false)?;
+        tell_line(rt, board, first, true)?;
+        say(rt, RULE)?;
     }
+    Ok(())
 }
 
-fn tell_sums(desk: Desk) {
+fn tell_sums(rt: &impl Print, desk: Desk) -> io::Result<()> {
     let refused = std::num::wrapping_sub_u64(desk.calls, desk.taken);
-    tell(CALL_UPS, desk.calls, desk.taken, refused, desk.ends / 2, 0);
-    tell(LINES_AND_TICKS, desk.bad, desk.ticks, 0, 0, 0);
+    tell(
+        rt,
+        CALL_UPS,
+        desk.calls,
+        desk.taken,
+        refused,
+        desk.ends / 2,
+        0,
+    )?;
+    tell(rt, LINES_AND_TICKS, desk.bad, desk.ticks, 0, 0, 0)
 }
 
-pub fn tell_end(night: Night) {
+pub fn tell_end(rt: &impl Print, night: Night) -> io::Result<()> {
     let board = night.board;
-    let desk = fresh(night.desk);
-    tell_panel(board);
-    tell_sums(desk);
+    let desk = fresh(rt, night.desk)?;
+    tell_panel(rt, board)?;
+    tell_sums(rt, desk)
 }

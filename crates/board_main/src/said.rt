@@ -24,7 +24,7 @@ pub const END: u64 = 8;
 pub const BLANK: u64 = 9;
 
 // A word of a line, or more of them: its value, and where it ends. Where one is wrong, why (0: it is not), and where it stands.
-#[derive(Drop)]
+#[derive(Clone, Copy)]
 struct Item {
     value: u64,
     wrong: usize,
@@ -33,7 +33,7 @@ struct Item {
 }
 
 // A line: its name, its numbers, how many words it has, and what is wrong, as with an item.
-#[derive(Drop)]
+#[derive(Clone, Copy)]
 pub struct Line {
     pub name: u64,
     pub first: u64,

@@ -8,6 +8,7 @@ use crate::out::{
 };
 use order_lines::Text;
 use registers::{Control, Mode};
+use std::io;
 use verdict::Verdict;
 
 // The first of the reasons of 34 that is so.
@@ -40,25 +41,34 @@ pub fn text_of(verdict: Verdict, control: Control) -> usize {
 }
 
 // A call-up: the text of its verdict with that one's number, and what is in use of the queue and of TX.
-pub fn tell_call_up(desk: Desk, text: usize, refusal: u16, places: u16, words: u16) -> Desk {
-    let after = fresh(desk);
+pub fn tell_call_up(
+    rt: &impl Print,
+    desk: Desk,
+    text: usize,
+    refusal: u16,
+    places: u16,
+    words: u16,
+) -> io::Result<Desk> {
+    let after = fresh(rt, desk)?;
     tell(
+        rt,
         CALL_UP,
         desk.ticks,
         desk.calls,
         desk.first,
         desk.second,
         desk.words,
-    );
+    )?;
     tell(
+        rt,
         text,
         refusal as u64,
         desk.first,
         places as u64,
         words as u64,
         0,
-    );
-    after
+    )?;
+    Ok(after)
 }
 
 // The end of a word, or of its first 40 bytes.
@@ -73,26 +83,33 @@ fn cut(from: usize, to: usize) -> usize
     to
 }
 
-fn found(text: &Text, from: usize, to: usize) {
+fn found(rt: &impl Print, text: &Text, from: usize, to: usize) -> io::Result<()> {
     let all: &[u8] = text;
     if to <= from {
-        say(NOTHING);
-        return;
+        return say(rt, NOTHING);
     }
     if to <= all.len() {
         let end = cut(from, to);
-        say(QUOTE);
-        print(&all[from..end]);
-        say(UNQUOTE);
+        say(rt, QUOTE)?;
+        print(rt, &all[from..end])?;
+        say(rt, UNQUOTE)?;
     }
+    Ok(())
 }
 
-pub fn bad(desk: Desk, text: &Text, reason: usize, from: usize, to: usize) -> Desk {
-    let mut after = fresh(desk);
+pub fn bad(
+    rt: &impl Print,
+    desk: Desk,
+    text: &Text,
+    reason: usize,
+    from: usize,
+    to: usize,
+) -> io::Result<Desk> {
+    let mut after = fresh(rt, desk)?;
     after.bad = std::num::wrapping_add_u64(desk.bad, 1);
-    tell(reason, desk.number, 0, 0, 0, 0);
+    tell(rt, reason, desk.number, 0, 0, 0, 0)?;
     if reason <= MORE {
-        found(text, from, to);
+        found(rt, text, from, to)?;
     }
-    after
+    Ok(after)
 }

@@ -5,10 +5,14 @@
 // 1 malformed, 2 forward, 3 data read, 4 register write, 5 register read, 6 soft reset), then the fields of that kind as `Command`
 // declares them, a bool as 0 or 1. Each number n of the row takes the digest d to (d * 65599 + n + 1) mod 4294967291, the largest
 // prime below 2^32, so no step leaves 64 bits. It is printed as eight hex digits.
+
+#![tactic(auto)]
+
 ghost use Rattle.std.specs.Prelude.{◌<◌};
 
 use command::Command;
 use layout::Layout;
+use std::io;
 
 fn mix(digest: u64, field: u16) -> u64 {
     (digest % 4294967291 * 65599 + field as u64 + 1) % 4294967291
@@ -86,55 +90,49 @@ fn by_crc(first: usize, crc: bool) -> usize
     if crc { first } else { first + 1 }
 }
 
-fn print_count(name: &[u8], count: u32) {
-    io::write_all(1, name);
-    io::print_decimal(1, count as u64);
-    io::write_all(1, b"\n");
+fn print_count(rt: &impl Print, name: &str, count: u32) -> io::Result<()> {
+    println!(rt; "{name} {count}")
 }
 
-fn print_counts(counts: [u32; 13]) {
-    print_count(b"filler ", counts[0]);
-    print_count(b"malformed ", counts[1]);
-    print_count(b"forward write crc ", counts[2]);
-    print_count(b"forward write plain ", counts[3]);
-    print_count(b"forward reads crc ", counts[4]);
-    print_count(b"forward reads plain ", counts[5]);
-    print_count(b"data read crc ", counts[6]);
-    print_count(b"data read plain ", counts[7]);
-    print_count(b"register write crc ", counts[8]);
-    print_count(b"register write plain ", counts[9]);
-    print_count(b"register read crc ", counts[10]);
-    print_count(b"register read plain ", counts[11]);
-    print_count(b"soft reset ", counts[12]);
+fn print_counts(rt: &impl Print, counts: [u32; 13]) -> io::Result<()> {
+    print_count(rt, "filler", counts[0])?;
+    print_count(rt, "malformed", counts[1])?;
+    print_count(rt, "forward write crc", counts[2])?;
+    print_count(rt, "forward write plain", counts[3])?;
+    print_count(rt, "forward reads crc", counts[4])?;
+    print_count(rt, "forward reads plain", counts[5])?;
+    print_count(rt, "data read crc", counts[6])?;
+    print_count(rt, "data read plain", counts[7])?;
+    print_count(rt, "register write crc", counts[8])?;
+    print_count(rt, "register write plain", counts[9])?;
+    print_count(rt, "register read crc", counts[10])?;
+    print_count(rt, "register read plain", counts[11])?;
+    print_count(rt, "soft reset", counts[12])
 }
 
 // After a number's last word its line; the next number begins anew.
-fn close_number(word: u16, digest: u64) -> u64 {
+fn close_number(rt: &impl Print, word: u16, digest: u64) -> io::Result<u64> {
     if word % 4096 != 4095 {
-        return digest;
+        return Ok(digest);
     }
-    io::write_all(1, b"number ");
-    io::print_decimal(1, (word / 4096) as u64);
-    io::write_all(1, b" digest ");
-    io::print_hex(1, digest, 8);
-    io::write_all(1, b"\n");
-    0
+    println!(rt; "number {} digest {digest:08x}", word / 4096)?;
+    Ok(0)
 }
 
-fn walk(layout: Layout) {
+fn walk(rt: &impl Print, layout: Layout) -> io::Result<()> {
     let mut counts = [0u32; 13];
     let mut digest: u64 = 0;
     for word in 0..=65535u16 {
         let asked = command::decode(layout, word);
         let at = place(asked);
         counts[at] = std::num::wrapping_add_u32(counts[at], 1);
-        digest = close_number(word, mix_command(digest, asked));
+        digest = close_number(rt, word, mix_command(digest, asked))?;
     }
-    print_counts(counts);
+    print_counts(rt, counts)
 }
 
-fn main() {
-    walk(Layout::Ours);
-    io::write_all(1, b"maker's\n");
-    walk(Layout::Makers);
+fn main(rt: HostRuntime) -> io::Result<()> {
+    walk(&rt, Layout::Ours)?;
+    println!(rt; "maker's")?;
+    walk(&rt, Layout::Makers)
 }

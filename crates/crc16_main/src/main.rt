@@ -1,6 +1,10 @@
 // Prints CRCs for comparison with another implementation: tests/crc16.py recomputes each line. Each line has the same twice, by the table of sixteen
 // entries (`crc16`, what a controller links) and by the table of 256 (`crc16_wide`).
 
+#![tactic(auto)]
+
+use std::io;
+
 fn mixed(digest: u32, byte: u8) -> u32 {
     digest ^ byte as u32
 }
@@ -41,11 +45,9 @@ fn next(seed: u32) -> u32 {
 
 fn fill(words: &mut [u16], seed: u32) {
     let mut state = seed;
-    let mut i: usize = 0;
-    while i < words.len() {
+    for i in 0..words.len() {
         state = next(state);
         words[i] = (state / 65536) as u16;
-        i = i + 1;
     }
 }
 
@@ -60,18 +62,16 @@ fn list(n: u16, wide: bool) -> u16 {
     crc_of(&words[0..count], wide)
 }
 
-fn line(narrow: u64, wide: u64, width: usize) {
-    io::print_hex(libc::STDOUT_FILENO, narrow, width);
-    io::write_all(libc::STDOUT_FILENO, b" ");
-    io::print_hex(libc::STDOUT_FILENO, wide, width);
-    io::write_all(libc::STDOUT_FILENO, b"\n");
+fn line(rt: &impl Print, narrow: u64, wide: u64, width: usize) -> io::Result<()> {
+    println!(rt; "{narrow:0width$x} {wide:0width$x}")
 }
 
-fn main() {
+fn main(rt: HostRuntime) -> io::Result<()> {
     for high in 0..=255u8 {
-        line(block(high, false) as u64, block(high, true) as u64, 8);
+        line(&rt, block(high, false) as u64, block(high, true) as u64, 8)?;
     }
     for n in 0..512u16 {
-        line(list(n, false) as u64, list(n, true) as u64, 4);
+        line(&rt, list(n, false) as u64, list(n, true) as u64, 4)?;
     }
+    Ok(())
 }

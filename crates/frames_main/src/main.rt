@@ -1,45 +1,64 @@
 // Frames from a shell (02 items 1 and 7): reads orders, a line each, and prints the words of each one's frame, or what its answer says. Frames and
 // answers are `frames`' own. All lines are judged before the first is printed, so a list of frames is whole or not there.
+
+#![tactic(auto)]
+
 mod orders;
 mod out;
 mod reasons;
 
 ghost use Rattle.std.specs.Prelude.{◌≤◌};
 
-use libc::STDIN_FILENO;
 use order_lines::{NONE, OTHER, Text};
 use reasons::due;
+use std::io;
+use std::io::Read;
 
 // Whether the line is right, or blank.
-fn line(text: &Text, number: u64, from: usize, to: usize, shown: bool) -> bool
+fn line(
+    rt: &impl Print,
+    errors: &impl Print,
+    text: &Text,
+    number: u64,
+    from: usize,
+    to: usize,
+    shown: bool,
+) -> io::Result<bool>
     requires { from ≤ to }
 {
     let end = order_lines::words_end(text, from, to);
     let start = order_lines::find(text, from, end, OTHER);
     if end <= start {
-        return true;
+        return Ok(true);
     }
     let name = order_lines::read_name(text, start, end);
     let mut fields = [NONE; 3];
     let mut words = [0u16; 4096];
     let items = order_lines::read_items(text, name, end, &mut fields, &mut words);
-    let reason = orders::done(name, items, &fields, &words, shown);
+    let reason = orders::done(rt, name, items, &fields, &words, shown);
     if reason == 0 {
-        return true;
+        return Ok(true);
     }
     reasons::told(
+        errors,
         text,
         number,
         name,
         items,
         reason,
         due(name.command, fields[2]),
-    );
-    false
+    )?;
+    Ok(false)
 }
 
 // Whether all lines are right. Where they are shown, none is behind one that cannot be written.
-fn walked(text: &Text, length: usize, shown: bool) -> bool
+fn walked(
+    rt: &impl Print,
+    errors: &impl Print,
+    text: &Text,
+    length: usize,
+    shown: bool,
+) -> io::Result<bool>
     requires { length ≤ 1048576 }
 {
     let mut right = true;
@@ -47,33 +66,36 @@ fn walked(text: &Text, length: usize, shown: bool) -> bool
     let mut at: usize = 0;
     while at < length {
         let end = order_lines::find(text, at, length, b'\n');
-        right = line(text, number, at, end, shown) & right;
+        right = line(rt, errors, text, number, at, end, shown)? & right;
         if shown & !right {
-            return false;
+            return Ok(false);
         }
         number = std::num::wrapping_add_u64(number, 1);
         at = end + 1;
     }
-    right
+    Ok(right)
 }
 
 // How many bytes there are.
-fn text_read(text: &mut Text) -> usize {
-    io::read_full(STDIN_FILENO, text)
+fn text_read(input: &mut impl Read, text: &mut Text) -> io::Result<usize> {
+    console::read_full(input, text)
 }
 
-fn main() {
+fn main(rt: HostRuntime) -> io::Result<()> {
     let mut text = [0u8; 1048577];
-    let n = text_read(&mut text);
-    if os::errno() != 0 {
-        os::fail(b"standard input");
-        return;
-    }
+    let errors = rt.stderr();
+    let n = match text_read(&mut rt.stdin(), &mut text) {
+        Ok(n) => n,
+        Err(error) => return console::fail(&errors, rt.alloc(), b"standard input", &error),
+    };
     if 1048576 < n {
-        reasons::print(b"expected at most 1 MiB (1048576 bytes) of text, found more\n");
-        return;
+        return reasons::print(
+            &errors,
+            b"expected at most 1 MiB (1048576 bytes) of text, found more\n",
+        );
     }
-    if walked(&text, n, false) {
-        walked(&text, n, true);
+    if walked(&rt, &errors, &text, n, false)? {
+        walked(&rt, &errors, &text, n, true)?;
     }
+    Ok(())
 }

@@ -37,7 +37,7 @@ fn start_of(number: usize) -> u16 {
 }
 
 // 0, or why there is no frame. 4,098 words are room for any.
-fn framed(layout: usize, order: Order, words: &[u16], shown: bool) -> usize {
+fn framed(rt: &impl Print, layout: usize, order: Order, words: &[u16], shown: bool) -> usize {
     let mut frame = [0u16; 4098];
     let start = start_of(layout);
     match frames::write(layout_of(layout), start, order, words, &mut frame) {
@@ -46,7 +46,7 @@ fn framed(layout: usize, order: Order, words: &[u16], shown: bool) -> usize {
             if 4098 < n {
                 return NOT_WRITTEN;
             }
-            print(b"", &frame[0..n], 1, shown)
+            print(rt, b"", &frame[0..n], 1, shown)
         }
         Written::OutsideLimits => OUTSIDE,
         Written::BufferShort => OUTSIDE,
@@ -74,27 +74,41 @@ fn refused(order: Order, right_length: bool) -> usize {
 }
 
 // 0, or why it is no answer.
-fn answered(layout: usize, order: Order, due: u64, words: &[u16], shown: bool) -> usize
+fn answered(
+    rt: &impl Print,
+    layout: usize,
+    order: Order,
+    due: u64,
+    words: &[u16],
+    shown: bool,
+) -> usize
     requires { length words.now ≤ 4096 }
 {
     match frames::read_answer(start_of(layout), order, words) {
         Told::Status(word) => {
             let status = [word];
-            print(b"STATUS", &status, 0, shown)
+            print(rt, b"STATUS", &status, 0, shown)
         }
         Told::Data(count) => {
             let n = count as usize;
             if words.len() < n {
                 return NOT_WRITTEN;
             }
-            print(b"data", &words[0..n], 0, shown)
+            print(rt, b"data", &words[0..n], 0, shown)
         }
         Told::Refused => refused(order, due == words.len() as u64),
     }
 }
 
 // 0, or why there is neither frame nor answer. They are printed where asked. A field that is not told is 0 to the library.
-pub fn done(name: Name, items: Items, fields: &Fields, words: &Words, shown: bool) -> usize {
+pub fn done(
+    rt: &impl Print,
+    name: Name,
+    items: Items,
+    fields: &Fields,
+    words: &Words,
+    shown: bool,
+) -> usize {
     if items.wrong != 0 {
         return items.wrong;
     }
@@ -119,9 +133,9 @@ pub fn done(name: Name, items: Items, fields: &Fields, words: &Words, shown: boo
         },
         Named::Known(order) => if name.answer {
             let due = due(name.command, fields[2]);
-            answered(layout, order, due, &all[0..n], shown)
+            answered(rt, layout, order, due, &all[0..n], shown)
         } else {
-            framed(layout, order, &all[0..n], shown)
+            framed(rt, layout, order, &all[0..n], shown)
         },
     }
 }

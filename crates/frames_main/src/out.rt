@@ -1,7 +1,6 @@
 // Words to standard output, a line.
 ghost use Rattle.std.specs.Prelude.{◌≤◌, length};
 
-use libc::STDOUT_FILENO;
 use order_lines::NOT_WRITTEN;
 
 fn hex(n: u16) -> u8 {
@@ -25,7 +24,7 @@ fn spelled(word: u16, place: usize) -> u8 {
 
 // What the line begins with, and the words, with the space before the first or without. 0, or why not. The longest frame has 4,098 words; behind
 // them stands a line end.
-pub fn print(head: &[u8], words: &[u16], skipped: usize, shown: bool) -> usize
+pub fn print(rt: &impl Print, head: &[u8], words: &[u16], skipped: usize, shown: bool) -> usize
     requires { length words.now ≤ 4098 }
 {
     if !shown {
@@ -36,14 +35,12 @@ pub fn print(head: &[u8], words: &[u16], skipped: usize, shown: bool) -> usize
         return 0;
     }
     let mut out = [b'\n'; 20491];
-    let mut i: usize = 0;
-    while i < end {
+    for i in 0..end {
         out[i] = spelled(words[i / 5], i % 5);
-        i = i + 1;
     }
     let next = end + 1;
-    let begun = io::write_all(STDOUT_FILENO, head);
-    if begun & io::write_all(STDOUT_FILENO, &out[skipped..next]) {
+    let begun = rt.write_all(head).is_ok();
+    if begun & rt.write_all(&out[skipped..next]).is_ok() {
         return 0;
     }
     NOT_WRITTEN

@@ -1,13 +1,17 @@
 // The list calls of a file (02 item 6), from standard input or from the file that its argument names: what `whole_night::night` makes of each, in two
 // lines. tests/model/list_model.c says how the file is written, and does the same in C; tests/lists.py compares the two. The stored `stdin` is what
 // tests/model/make_lists.py 22 32 makes, and a call that is cut.
+
+#![tactic(auto)]
+
 ghost use Rattle.std.specs.Prelude.{◌≤◌, length};
 
-use libc::{STDIN_FILENO, STDOUT_FILENO};
 use state::Bridge;
+use std::io;
+use std::io::Read;
 
 // Whether there may be more calls.
-#[derive(Drop)]
+#[derive(Clone, Copy)]
 struct Went {
     bridge: Bridge,
     on: bool,
@@ -38,84 +42,89 @@ fn spelled(cell: u8, place: usize) -> u8 {
 }
 
 // Behind the cells stands a line end.
-fn print_results(results: &[u8])
+fn print_results(rt: &impl Print, results: &[u8]) -> io::Result<()>
     requires { length results.now ≤ 4400 }
 {
     let end = results.len() * 2;
     let mut out = [b'\n'; 8801];
-    let mut i: usize = 0;
-    while i < end {
+    for i in 0..end {
         out[i] = spelled(results[i / 2], i % 2);
-        i = i + 1;
     }
     let next = end + 1;
-    io::write_all(STDOUT_FILENO, &out[0..next]);
+    rt.write_all(&out[0..next])
 }
 
-fn print_outcome(number: u16, done: usize) {
-    io::print_decimal(STDOUT_FILENO, number as u64);
-    io::write_all(STDOUT_FILENO, b" ");
-    io::print_decimal(STDOUT_FILENO, done as u64);
-    io::write_all(STDOUT_FILENO, b"\n");
+fn print_outcome(rt: &impl Print, number: u16, done: usize) -> io::Result<()> {
+    println!(rt; "{number} {done}")
 }
 
-fn call(start: Bridge, tx: &mut [u16], rx: &mut [u16], records: &[u8], results: &mut [u8]) -> Bridge
+fn call(
+    rt: &impl Print,
+    start: Bridge,
+    tx: &mut [u16],
+    rx: &mut [u16],
+    records: &[u8],
+    results: &mut [u8],
+) -> io::Result<Bridge>
     requires { length results.old ≤ 4400 }
 {
     let listed = whole_night::night(start, tx, rx, records, results);
     let outcome = listed.outcome;
-    print_outcome(whole_night::number(outcome), listed.done);
-    print_results(results);
-    listed.state
+    print_outcome(rt, whole_night::number(outcome), listed.done)?;
+    print_results(rt, results)?;
+    Ok(listed.state)
 }
 
-fn bad_file(bridge: Bridge) -> Went {
-    io::write_all(STDOUT_FILENO, b"bad file\n");
-    Went {
+fn bad_file(rt: &impl Print, bridge: Bridge) -> io::Result<Went> {
+    println!(rt; "bad file")?;
+    Ok(Went {
         bridge: bridge,
         on: false,
-    }
+    })
 }
 
 fn with_records(
-    fd: i32,
+    rt: &impl Print,
+    input: &mut impl Read,
     start: Bridge,
     tx: &mut [u16],
     rx: &mut [u16],
     records: &mut [u8],
     results: &mut [u8],
-) -> Went
+) -> io::Result<Went>
     requires { length results.old ≤ 4400 }
 {
-    let n = io::read_full(fd, records);
+    let n = console::read_full(input, records)?;
     if n < records.len() {
-        return bad_file(start);
+        return bad_file(rt, start);
     }
-    Went {
-        bridge: call(start, tx, rx, records, results),
+    Ok(Went {
+        bridge: call(rt, start, tx, rx, records, results)?,
         on: true,
-    }
+    })
 }
 
 // Every cell of the results is A5 before the call.
 fn with_buffers(
-    fd: i32,
+    rt: &impl Print,
+    input: &mut impl Read,
     start: Bridge,
     tx: &mut [u16],
     rx: &mut [u16],
     bytes: usize,
     cells: usize,
-) -> Went {
+) -> io::Result<Went> {
     let mut records = [0u8; 3000];
     let mut results = [0xA5u8; 4400];
     if 3000 < bytes {
-        return bad_file(start);
+        return bad_file(rt, start);
     }
     if 4400 < cells {
-        return bad_file(start);
+        return bad_file(rt, start);
     }
     with_records(
-        fd,
+        rt,
+        input,
         start,
         tx,
         rx,
@@ -125,19 +134,27 @@ fn with_buffers(
 }
 
 // Lends as many cells of each store as are asked for, and there are.
-fn with_stores(fd: i32, start: Bridge, tx: &mut [u16], rx: &mut [u16], numbers: &[u8; 8]) -> Went {
+fn with_stores(
+    rt: &impl Print,
+    input: &mut impl Read,
+    start: Bridge,
+    tx: &mut [u16],
+    rx: &mut [u16],
+    numbers: &[u8; 8],
+) -> io::Result<Went> {
     let bytes = script::value(numbers[0], numbers[1]) as usize;
     let cells = script::value(numbers[2], numbers[3]) as usize;
     let tx_to = script::value(numbers[4], numbers[5]) as usize;
     let rx_to = script::value(numbers[6], numbers[7]) as usize;
     if tx.len() < tx_to {
-        return bad_file(start);
+        return bad_file(rt, start);
     }
     if rx.len() < rx_to {
-        return bad_file(start);
+        return bad_file(rt, start);
     }
     with_buffers(
-        fd,
+        rt,
+        input,
         start,
         &mut tx[0..tx_to],
         &mut rx[0..rx_to],
@@ -146,59 +163,60 @@ fn with_stores(fd: i32, start: Bridge, tx: &mut [u16], rx: &mut [u16], numbers: 
     )
 }
 
-fn next(fd: i32, start: Bridge, tx: &mut [u16], rx: &mut [u16]) -> Went {
+fn next(
+    rt: &impl Print,
+    input: &mut impl Read,
+    start: Bridge,
+    tx: &mut [u16],
+    rx: &mut [u16],
+) -> io::Result<Went> {
     let mut numbers = [0u8; 8];
-    let n = io::read_full(fd, &mut numbers);
+    let n = console::read_full(input, &mut numbers)?;
     if n == 0 {
-        return Went {
+        return Ok(Went {
             bridge: start,
             on: false,
-        };
+        });
     }
     if n < 8 {
-        return bad_file(start);
+        return bad_file(rt, start);
     }
-    with_stores(fd, start, tx, rx, &numbers)
+    with_stores(rt, input, start, tx, rx, &numbers)
 }
 
-// A proved loop has to end, and nothing says that a file does: it counts down from a number that no file uses up.
-fn walk(fd: i32) {
+// A proved loop has to end, and nothing says that a file does: it counts up to a number of calls that no file has.
+fn walk(rt: &impl Print, input: &mut impl Read) -> io::Result<()> {
     let mut tx = [0u16; 512];
     let mut rx = [0u16; 256];
     let mut bridge = Bridge::good();
-    let mut turns = u64::MAX;
-    while turns > 0 {
-        let went = next(fd, bridge, &mut tx, &mut rx);
+    for _ in 0..u64::MAX {
+        let went = next(rt, input, bridge, &mut tx, &mut rx)?;
         if !went.on {
-            return;
+            return Ok(());
         }
         bridge = went.bridge;
-        turns = turns - 1;
     }
+    Ok(())
 }
 
-fn run(fd: i32) {
+fn run(rt: &impl Print, input: &mut impl Read) -> io::Result<()> {
     let mut head = [0u8; 5];
-    let n = io::read_full(fd, &mut head);
+    let n = console::read_full(input, &mut head)?;
     if is_head(&head[0..n]) {
-        walk(fd);
-        return;
+        return walk(rt, input);
     }
-    bad_file(Bridge::good());
+    bad_file(rt, Bridge::good())?;
+    Ok(())
 }
 
-fn main() {
-    if os::arg_count() < 2 {
-        run(STDIN_FILENO);
-        return;
+fn main(rt: HostRuntime) -> io::Result<()> {
+    let mut path = [0u8; 4096];
+    let Some(length) = console::argument(&rt, 1, &mut path) else {
+        return run(&rt, &mut rt.stdin());
+    };
+    let name = &path[..length];
+    match console::open(&rt, name) {
+        Ok(mut file) => run(&rt, &mut file),
+        Err(error) => console::fail(&rt.stderr(), rt.alloc(), name, &error),
     }
-    let mut path = io::buffer();
-    let length = os::arg(1, &mut path);
-    let fd = os::open_read(&path[..length]);
-    if fd < 0 {
-        os::fail(&path[..length]);
-        return;
-    }
-    run(fd);
-    libc::close(fd);
 }

@@ -4,15 +4,17 @@
 // is wrong in itself is refused so (22 and 23 of 02, item 6) in every case. The table is standard input; its head says how it is written. A line that
 // cannot be read is a case that went wrong.
 
+#![tactic(auto)]
+
 ghost use Rattle.std.specs.Prelude.{◌≤◌};
 
 use calls::{BROKEN, STORES, TAKEN, Want};
-use libc::{STDIN_FILENO, STDOUT_FILENO};
 use records::{COLUMNS, Fields};
+use std::io;
 use table::{Text, byte, change, find, mark_after};
 
 // The cases so far: refused with note 1, with note 2, taken, and those that went wrong.
-#[derive(Drop)]
+#[derive(Clone, Copy)]
 struct Tally {
     stores: u64,
     broken: u64,
@@ -20,13 +22,13 @@ struct Tally {
     wrong: u64,
 }
 
-fn print(text: &[u8]) {
-    io::write_all(STDOUT_FILENO, text);
+fn print(rt: &impl Print, text: &[u8]) -> io::Result<()> {
+    rt.write_all(text)
 }
 
-fn tell(number: u64, text: &[u8]) {
-    io::print_decimal(STDOUT_FILENO, number);
-    print(text);
+fn tell(rt: &impl Print, number: u64, text: &[u8]) -> io::Result<()> {
+    print!(rt; "{number}")?;
+    print(rt, text)
 }
 
 fn one_more(count: u64) -> u64 {
@@ -44,13 +46,13 @@ fn counted(tally: Tally, kind: u16) -> Tally {
     t
 }
 
-fn judged(tally: Tally, kind: u16, right: bool) -> Tally {
+fn judged(rt: &impl Print, tally: Tally, kind: u16, right: bool) -> io::Result<Tally> {
     if right {
-        print(b"\n");
-        return counted(tally, kind);
+        print(rt, b"\n")?;
+        return Ok(counted(tally, kind));
     }
-    print(b": WRONG\n");
-    counted(tally, 0)
+    print(rt, b": WRONG\n")?;
+    Ok(counted(tally, 0))
 }
 
 fn said(calls: u16, word: u16) -> Want {
@@ -80,15 +82,22 @@ fn change_common(fields: &mut Fields, text: &Text, group: usize) -> bool
     idle & change(fields, text, from, find(text, group, 65535, b'\n'))
 }
 
-fn is_read(read: bool) -> bool {
+fn is_read(rt: &impl Print, read: bool) -> io::Result<bool> {
     if !read {
-        print(b" cannot be read");
+        print(rt, b" cannot be read")?;
     }
-    read
+    Ok(read)
 }
 
 // Behind a first semicolon a case's own changes, and behind a second what its word changes.
-fn is_right(text: &Text, group: usize, from: usize, end: usize, want: Want) -> bool
+fn is_right(
+    rt: &impl Print,
+    text: &Text,
+    group: usize,
+    from: usize,
+    end: usize,
+    want: Want,
+) -> io::Result<bool>
     requires group_bound { group ≤ 65535 }
     requires from_bound { from ≤ 65535 }
     requires end_bound { end ≤ 65535 }
@@ -98,10 +107,19 @@ fn is_right(text: &Text, group: usize, from: usize, end: usize, want: Want) -> b
     let own = change(&mut lent, text, from, find(text, from, end, b';'));
     let mut after = lent;
     let all = change(&mut after, text, from, end);
-    is_read(common & own & all) & calls::tried(&lent, &after, want)
+    let read = is_read(rt, common & own & all)?;
+    let right = calls::tried(rt, &lent, &after, want)?;
+    Ok(read & right)
 }
 
-fn case(tally: Tally, text: &Text, group: usize, at: usize, end: usize) -> Tally
+fn case(
+    rt: &impl Print,
+    tally: Tally,
+    text: &Text,
+    group: usize,
+    at: usize,
+    end: usize,
+) -> io::Result<Tally>
     requires group_bound { group ≤ 65535 }
     requires at_le_end { at ≤ end }
     requires end_bound { end ≤ 65535 }
@@ -109,25 +127,32 @@ fn case(tally: Tally, text: &Text, group: usize, at: usize, end: usize) -> Tally
     let semicolon = find(text, at, end, b';');
     let colon = find(text, at, semicolon, b':');
     let line: &[u8] = text;
-    print(&line[at..semicolon]);
+    print(rt, &line[at..semicolon])?;
     let want = wanted(byte(text, colon + 7), byte(text, colon + 12));
-    let right = is_right(text, group, mark_after(text, semicolon), end, want);
-    judged(tally, want.calls, right & (colon < semicolon))
+    let right = is_right(rt, text, group, mark_after(text, semicolon), end, want)?;
+    judged(rt, tally, want.calls, right & (colon < semicolon))
 }
 
 fn begins_case(first: u8) -> bool {
     (first != b'#') & (first != b'=') & (first != b'>') & (first != b'\n') & (first != 0)
 }
 
-fn line(tally: Tally, text: &Text, group: usize, at: usize, end: usize) -> Tally
+fn line(
+    rt: &impl Print,
+    tally: Tally,
+    text: &Text,
+    group: usize,
+    at: usize,
+    end: usize,
+) -> io::Result<Tally>
     requires group_bound { group ≤ 65535 }
     requires at_le_end { at ≤ end }
     requires end_bound { end ≤ 65535 }
 {
     if begins_case(byte(text, at)) {
-        return case(tally, text, group, at, end);
+        return case(rt, tally, text, group, at, end);
     }
-    tally
+    Ok(tally)
 }
 
 // Where the changes stand that the cases from here on have in common.
@@ -141,7 +166,7 @@ fn group_at(first: u8, group: usize, at: usize) -> usize
     group
 }
 
-fn walked(text: &Text) -> Tally {
+fn walked(rt: &impl Print, text: &Text) -> io::Result<Tally> {
     let mut tally = Tally {
         stores: 0,
         broken: 0,
@@ -153,18 +178,18 @@ fn walked(text: &Text) -> Tally {
     while at < 65535 {
         let end = find(text, at, 65535, b'\n');
         group = group_at(byte(text, at), group, at);
-        tally = line(tally, text, group, at, end);
+        tally = line(rt, tally, text, group, at, end)?;
         at = end + 1;
     }
-    tally
+    Ok(tally)
 }
 
-fn main() {
+fn main(rt: HostRuntime) -> io::Result<()> {
     let mut text = [0u8; 65536];
-    io::read_full(STDIN_FILENO, &mut text);
-    let tally = walked(&text);
-    tell(tally.stores, b" of note 1, ");
-    tell(tally.broken, b" of note 2, ");
-    tell(tally.taken, b" taken, ");
-    tell(tally.wrong, b" wrong; eleven calls each\n");
+    console::read_full(&mut rt.stdin(), &mut text)?;
+    let tally = walked(&rt, &text)?;
+    tell(&rt, tally.stores, b" of note 1, ")?;
+    tell(&rt, tally.broken, b" of note 2, ")?;
+    tell(&rt, tally.taken, b" taken, ")?;
+    tell(&rt, tally.wrong, b" wrong; eleven calls each\n")
 }

@@ -1,15 +1,18 @@
 // The bridge's speed: the events of a script, round after round, one event a call (`step`), all of a round's in one call (`list`), or one event a call
 // with a drain at the end of each round (`drain`); and the CRC's, over the script's bytes as words, by the table of sixteen entries (`crc`) or of 256 (`wide`). Prints how much was done and a
 // sum of all answers, which the plain C program of the same rules must print too (tests/speed/measure.py).
+
+#![tactic(auto)]
+
 ghost use Rattle.std.specs.Prelude.{◌≡◌, ◌*◌, ◌≤◌, length};
 
 use events::Event;
-use libc::{STDERR_FILENO, STDIN_FILENO, STDOUT_FILENO};
 use script::Record;
 use state::Bridge;
+use std::io;
 
 // What was done so far: the state, events and ticks, and the sum of their answers.
-#[derive(Drop)]
+#[derive(Clone, Copy)]
 struct Ran {
     bridge: Bridge,
     done: u64,
@@ -91,15 +94,12 @@ fn summed(start: u32, results: &[u8], many: usize) -> u32
     requires { many * 4 ≤ length results.now }
 {
     let mut sum = start;
-    let mut k: usize = 0;
-    while k < many {
-        let next = k + 1;
+    for k in 0..many {
         let i = k * 4;
         sum = mixed(
             sum,
             said(results[i], results[i + 1], results[i + 2], results[i + 3]),
         );
-        k = next;
     }
     sum
 }
@@ -130,10 +130,8 @@ fn lists(records: &[u8], many: u32) -> Ran {
         done: 0,
         sum: 0,
     };
-    let mut left = many;
-    while left > 0 {
+    for _ in 0..many {
         ran = listed(ran, &mut tx, &mut rx, records, &mut results);
-        left = left - 1;
     }
     ran
 }
@@ -154,10 +152,8 @@ fn rounds(records: &[u8], many: u32, drains: bool) -> Ran {
         done: 0,
         sum: 0,
     };
-    let mut left = many;
-    while left > 0 {
+    for _ in 0..many {
         ran = whole(ran, &mut tx, &mut rx, records, drains);
-        left = left - 1;
     }
     ran
 }
@@ -184,11 +180,9 @@ fn crc_round(start: u16, records: &[u8], wide: bool) -> u16 {
 fn crc_rounds(records: &[u8], many: u32, wide: bool) -> Ran {
     let mut crc = crc16::START;
     let mut done: u64 = 0;
-    let mut left = many;
-    while left > 0 {
+    for _ in 0..many {
         crc = crc_round(crc, records, wide);
         done = std::num::wrapping_add_u64(done, (records.len() / 2) as u64);
-        left = left - 1;
     }
     Ran {
         bridge: Bridge::good(),
@@ -213,9 +207,8 @@ fn digit(byte: u8) -> u32
 // A decimal number, cut off above a million.
 fn number(text: &[u8]) -> u32 {
     let mut n: u32 = 0;
-    let mut i: usize = 0;
-    while i < text.len() {
-        let next = digit(text[i]);
+    for byte in text {
+        let next = digit(*byte);
         if 9 < next {
             return n;
         }
@@ -223,16 +216,12 @@ fn number(text: &[u8]) -> u32 {
             return n;
         }
         n = n * 10 + next;
-        i = i + 1;
     }
     n
 }
 
-fn print(ran: Ran) {
-    io::print_decimal(STDOUT_FILENO, ran.done);
-    io::write_all(STDOUT_FILENO, b" done, sum ");
-    io::print_hex(STDOUT_FILENO, ran.sum as u64, 8);
-    io::write_all(STDOUT_FILENO, b"\n");
+fn print(rt: &impl Print, ran: Ran) -> io::Result<()> {
+    println!(rt; "{} done, sum {:08x}", ran.done, ran.sum)
 }
 
 // The mode's first letter.
@@ -260,22 +249,23 @@ fn is_mode(mode: u8) -> bool {
 }
 
 // ROUNDS MODE: how often, and what.
-fn main() {
-    let mut records = io::large_buffer();
+fn main(rt: HostRuntime) -> io::Result<()> {
+    let mut records = [0u8; 65536];
     let mut head = [0u8; 5];
-    io::read_full(STDIN_FILENO, &mut head);
-    let n = io::read_full(STDIN_FILENO, &mut records);
-    let mut word = io::buffer();
-    let length = os::arg(1, &mut word);
-    let many = number(&word[..length]);
-    let mode_length = os::arg(2, &mut word);
-    let mode = letter(&word[..mode_length]);
+    let mut input = rt.stdin();
+    console::read_full(&mut input, &mut head)?;
+    let n = console::read_full(&mut input, &mut records)?;
+    let mut word = [0u8; 4096];
+    let many = match console::argument(&rt, 1, &mut word) {
+        Some(length) => number(&word[..length]),
+        None => 0,
+    };
+    let mode = match console::argument(&rt, 2, &mut word) {
+        Some(length) => letter(&word[..length]),
+        None => 0,
+    };
     if !is_mode(mode) {
-        io::write_all(
-            STDERR_FILENO,
-            b"use: speed ROUNDS step|list|drain|crc|wide < script.cwb\n",
-        );
-        return;
+        return eprintln!(rt; "use: speed ROUNDS step|list|drain|crc|wide < script.cwb");
     }
-    print(run(&records[..n], many, mode));
+    print(&rt, run(&records[..n], many, mode))
 }
