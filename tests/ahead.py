@@ -28,7 +28,7 @@ TESTS = pathlib.Path(__file__).resolve().parent
 sys.dont_write_bytecode = True
 sys.path.insert(0, str(TESTS / "model"))
 from make_scripts import POWER, RELEASE, TICK, WORD, crc16  # noqa: E402
-from pair import EVENTS, HEAD, built_model, difference  # noqa: E402
+from pair import EVENTS, HEAD, built_model, differences  # noqa: E402
 
 PERIODS, WORDS = range(1, 65), range(1, 513)
 AT_POWER_UP = 64  # words in TX that release a forward where TXFFLVL is not written
@@ -219,22 +219,28 @@ def place_of(runs, event):
     return "behind the last event"
 
 
-def compared(work, model, number, runs):
-    """The number of events, on which the rule and both programs agree."""
+def script_of(model, runs):
+    """The runs as a script, on which the rule and the independent program agree."""
     expected = [line for run in runs for line in run.lines]
     script = HEAD + b"".join(record for run in runs for record in run.records)
     found = subprocess.run([model], input=script, capture_output=True, check=True).stdout.splitlines(keepends=True)
     for event, (one, other) in enumerate(zip([*expected, None], [*found, None])):
         if one != other:
             sys.exit(f"ahead: the independent program: {place_of(runs, event)}: expected {one}, found {other}")
-    place = work / str(number)
-    place.mkdir()
-    said = difference(place, model, script)
-    if said:
-        at = re.search(r"at byte (\d+)", said)
-        where = place_of(runs, b"".join(expected)[:int(at[1])].count(b"\n")) if at else "one of " + "; ".join(map(str, runs))
-        sys.exit(f"ahead: the bench program: {where}:\n{said}")
-    return collections.Counter(runs=len(runs), lines=len(expected))
+    return script
+
+
+def compared(model, packed):
+    """The number of runs and events, on which the rule and both programs agree."""
+    met = collections.Counter()
+    for runs, said in zip(packed, differences(model, [script_of(model, runs) for runs in packed])):
+        expected = [line for run in runs for line in run.lines]
+        if said:
+            at = re.search(r"at byte (\d+)", said)
+            where = place_of(runs, b"".join(expected)[:int(at[1])].count(b"\n")) if at else "one of " + "; ".join(map(str, runs))
+            sys.exit(f"ahead: the bench program: {where}:\n{said}")
+        met.update(runs=len(runs), lines=len(expected))
+    return met
 
 
 def main():
@@ -244,7 +250,7 @@ def main():
         model, program = built_model(work), built_grid(work)
         with concurrent.futures.ThreadPoolExecutor(os.cpu_count()) as pool:
             jobs = [pool.submit(grid, program, PERIODS[half::2]) for half in range(2)]
-            jobs += [pool.submit(compared, work, model, number, runs) for number, runs in enumerate(scripts())]
+            jobs.append(pool.submit(compared, model, scripts()))
             met = sum((job.result() for job in jobs), collections.Counter())
     print(f"ahead: {len(PERIODS)} x {len(WORDS)} pairs, {met['whole']} commands in time and {met['starved']} starved as the rule says,",
           f"{met['events']} events; {met['runs']} of them and {met['lines']} events through the bench program too, all alike;",

@@ -19,14 +19,16 @@ IN_A_ROW = 8  # entries by which the large table is known
 
 
 def dependencies(text):
-    """Of each crate, what its line names."""
+    """Of each crate, what its line names. Behind a crate's name words may say how it is built, as staticlib."""
     below = {}
     for number, line in enumerate(text.splitlines(), 1):
-        if line.strip() and not line.startswith("#"):
-            name, colon, rest = line.partition(":")
-            if not colon or name.strip() in below:
-                raise ValueError(f"crates.txt:{number}: {'listed twice' if colon else 'no colon behind the name'}: {name.strip()}")
-            below[name.strip()] = rest.split()
+        line = line.partition("#")[0]
+        if line.strip():
+            front, colon, rest = line.partition(":")
+            name = (front.split() or [""])[0]
+            if not colon or not name or name in below:
+                raise ValueError(f"crates.txt:{number}: {'no name, or listed twice' if colon else 'no colon behind the name'}: {front.strip()}")
+            below[name] = rest.split()
     return below
 
 

@@ -5,8 +5,6 @@ broken.py    `broken: N scripts end alike`, or what differs and exit status 1
 
 Each has one thing wrong (01 The bench program; docs/DECISIONS.md, Bench), and good records before it, whose lines are printed.
 """
-import concurrent.futures
-import os
 import pathlib
 import subprocess
 import sys
@@ -14,7 +12,7 @@ import tempfile
 
 TESTS = pathlib.Path(__file__).resolve().parent
 sys.path.insert(0, str(TESTS / "model"))
-from pair import built_model, difference  # noqa: E402
+from pair import built_model, differences  # noqa: E402
 
 HEAD = b"CWB\x00\x01"
 GOOD = HEAD + bytes.fromhex("000001 01C000 030001")
@@ -28,23 +26,20 @@ SCRIPTS = {
 }
 
 
-def wrong(work, model, name):
-    """What is wrong with the named script's run, or None."""
-    place = work / name.replace(" ", "-")
-    place.mkdir()
-    printed = subprocess.run([model], input=SCRIPTS[name], capture_output=True, check=True).stdout
-    if not printed.endswith((b"bad script\n", b"bad record\n")):
-        return f"{name}: the independent program takes it"
-    found = difference(place, model, SCRIPTS[name])
-    return found and f"{name}: the programs differ\n{found}"
+def wrong(model):
+    """What is wrong with the scripts' runs."""
+    for name, script in SCRIPTS.items():
+        printed = subprocess.run([model], input=script, capture_output=True, check=True).stdout
+        if not printed.endswith((b"bad script\n", b"bad record\n")):
+            yield f"{name}: the independent program takes it"
+    for name, found in zip(SCRIPTS, differences(model, list(SCRIPTS.values()))):
+        if found:
+            yield f"{name}: the programs differ\n{found}"
 
 
 def main():
     with tempfile.TemporaryDirectory() as folder:
-        work = pathlib.Path(folder)
-        model = built_model(work)
-        with concurrent.futures.ThreadPoolExecutor(os.cpu_count()) as pool:
-            bad = list(filter(None, pool.map(lambda name: wrong(work, model, name), SCRIPTS)))
+        bad = list(wrong(built_model(pathlib.Path(folder))))
     if bad:
         print(*bad, sep="\n")
         sys.exit("broken: it does not hold")

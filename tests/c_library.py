@@ -36,7 +36,7 @@ from command import decode  # noqa: E402
 from pair import built_model  # noqa: E402
 
 ARCHIVES = os.environ.get("ICELICHEN_ARCHIVES")  # as in model/archives.py: made already
-LIBRARY = pathlib.Path(ARCHIVES or ROOT / "target/staticlib") / "libicelichen_frames.a"
+LIBRARY = pathlib.Path(ARCHIVES or ROOT / "crates/icelichen_frames/out") / "libicelichen_frames.a"
 MOST_EVENTS = 500_000  # of a script
 LAYOUTS = {"0": "our layout", "1": "the maker's", "2": "the maker's with CRC-16/XMODEM"}  # by the header's numbers
 STRICT = ["-std=c11", "-Wall", "-Wextra", "-Werror", "-O2", f"-I{ROOT / 'include'}"]
@@ -48,7 +48,7 @@ def library():
     if ARCHIVES:
         return
     print("c_library: proving the library for C ..", flush=True)
-    ran = subprocess.run(["rt", "staticlib", "icelichen_frames"], cwd=ROOT, capture_output=True, text=True)
+    ran = subprocess.run(["rt", "lib"], cwd=ROOT / "crates/icelichen_frames", stdin=subprocess.DEVNULL, capture_output=True, text=True)
     if ran.returncode or not LIBRARY.exists():
         sys.exit("c_library: the library is not built\n" + (ran.stdout + ran.stderr)[-2000:])
 
@@ -109,7 +109,7 @@ def sent_all(work):
     place = outside.copies(work, 1).get()
     if not outside.compiled(place, "bench"):
         sys.exit("c_library: the bench program is not compiled: " + (place / "said").read_text()[-1000:])
-    programs = [*outside.runner(), place / "program"], [model]
+    programs = [place / "program"], [model]
     for layout, name in LAYOUTS.items():
         parts = [line.split() for line in printed(sent, "plan", str(MOST_EVENTS), layout).decode().splitlines()]
         with concurrent.futures.ThreadPoolExecutor(os.cpu_count()) as pool:

@@ -3,8 +3,8 @@
 
 docs.py    `docs: N names hold`, or the names that do not and exit status 1
 
-Looked at, between backquotes: `Module.name` (a definition or lemma of specs/ or proofs/), `crate::function`, paths of the repository, and in
-docs/PROMISES.md the names of edits after `crate/must-fail`; without backquotes too, pages of docs/.
+Looked at, between backquotes: `Module.name` (a definition or lemma of specs/ or proofs/), `crate::function`, paths of the repository (of what is
+built, crates/NAME/out/.., the crate), and in docs/PROMISES.md the names of edits after `crate/must-fail`; without backquotes too, pages of docs/.
 """
 import pathlib
 import re
@@ -50,7 +50,7 @@ def wrong(text, known, calls):
                 yield name
         elif re.fullmatch(r"[a-z][a-z0-9_]*::\w+", name) and name not in calls:
             yield name
-        elif name.startswith(PLACES) and "NAME" not in name and not (ROOT / name.split()[0]).exists():
+        elif name.startswith(PLACES) and "NAME" not in name and not (ROOT / name.split()[0].partition("/out/")[0]).exists():
             yield name
     yield from (page for page in re.findall(r"\bdocs/[\w/-]+\.md\b", text) if not (ROOT / page).exists())
     yield from (edit.name for edit in edits(text) if not edit.exists())

@@ -22,7 +22,7 @@ def main():
     with tempfile.TemporaryDirectory() as folder:
         work = pathlib.Path(folder)
         script = joined(texts)
-        found = difference(work, built_model(work), script)
+        found = difference(built_model(work), script)
     if found:
         sys.exit(f"edges: the programs differ\n{found}")
     print(f"edges: {len(texts)} texts, {len(script) // RECORD} events agree")

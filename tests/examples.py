@@ -6,7 +6,7 @@ crates/bench/stdout is examples/expected/*.out and `bad record`. crates/states h
 and tools/explain.py makes examples/explained/*.out of it. `rt ci` runs both programs on the first and compares with the second.
 
 examples.py          `examples: N scripts stand in the programs' input`, or what differs and exit status 1
-examples.py --write  writes the programs' files and the words; needs target/bin/states
+examples.py --write  writes the programs' files and the words; needs crates/states/out/states (tools/build states)
 """
 import pathlib
 import subprocess

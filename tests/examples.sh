@@ -1,12 +1,12 @@
 #!/usr/bin/env bash
 # Runs every script of examples/ and compares what the bench program prints with examples/expected, byte for byte.
 #
-#   examples.sh [BENCH]    BENCH: target/bin/bench where none is given
+#   examples.sh [BENCH]    BENCH: crates/bench/out/bench where none is given
 #
 # `examples: N agree`, or the first difference and exit status 1.
 set -euo pipefail
 here=$(cd "$(dirname "$0")/.." && pwd)
-bench=$(realpath -m "${1:-$here/target/bin/bench}")
+bench=$(realpath -m "${1:-$here/crates/bench/out/bench}")
 cd "$here"
 work=$(mktemp -d)
 trap 'rm -rf "$work"' EXIT

@@ -318,7 +318,7 @@ def random_texts():
 
 
 def run(program, text):
-    done = subprocess.run([*outside.runner(), program], input=text, capture_output=True)
+    done = subprocess.run([program], input=text, capture_output=True)
     return done.stdout.decode("latin-1"), done.stderr.decode("latin-1"), done.returncode
 
 
@@ -421,13 +421,13 @@ def tool_differences(work):
         yield "tools/frame: of %d lines %d came out where a write takes less than all" % (LINES, lines_through_a_short_pipe(work))
     with open("/dev/full", "wb") as full:
         done = subprocess.run([TOOL, "SOFTRESET_CRC"], stdout=full, stderr=subprocess.PIPE, env={**os.environ, "BENCH_BIN": str(work)})
-        direct = subprocess.run([*outside.runner(), work / "frames_main"], input=b"\nSOFTRESET_CRC\n\n", stdout=full, stderr=subprocess.PIPE)
+        direct = subprocess.run([work / "frames_main"], input=b"\nSOFTRESET_CRC\n\n", stdout=full, stderr=subprocess.PIPE)
     if done.returncode != 1 or b"cannot be written: No space left" not in done.stderr:
         yield "tools/frame: a full disk is not told: %r" % done.stderr
     if direct.stderr != b"line 2: SOFTRESET_CRC: the words cannot be written to standard output\n":
         yield "frames_main: a full disk is not told: %r" % direct.stderr
     with open(work / "good.txt", "wb") as closed:  # opened for writing: a read of it fails
-        direct = subprocess.run([*outside.runner(), work / "frames_main"], stdin=closed, capture_output=True)
+        direct = subprocess.run([work / "frames_main"], stdin=closed, capture_output=True)
     if direct.stderr != b"standard input: Bad file descriptor\n":
         yield "frames_main: a failed read is not told: %r" % direct.stderr
 

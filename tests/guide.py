@@ -20,7 +20,7 @@ sys.dont_write_bytecode = True
 sys.path[:0] = [str(TESTS / "model"), str(ROOT / "tools")]
 from frames import MAKERS, ROWS, XMODEM, order  # noqa: E402
 from make_scripts import RELEASE, WORD, crc16  # noqa: E402
-from pair import EVENTS, HEAD, POWER_UP, RECORD, built_model, difference  # noqa: E402
+from pair import EVENTS, HEAD, POWER_UP, RECORD, built_model, differences  # noqa: E402
 from refused import Refused  # noqa: E402
 
 GUIDE = (ROOT / "docs/HOST-GUIDE.md").read_text()
@@ -138,11 +138,9 @@ def batches(texts):
 def main():
     texts = dict(scripts())
     with tempfile.TemporaryDirectory() as folder:
-        work = pathlib.Path(folder)
-        model = built_model(work)
+        model = built_model(pathlib.Path(folder))
         bad = list(wrong(model, texts))
-        differences = [difference(work, model, batch) for batch in batches(texts.values())]
-    bad += [f"the programs differ\n{found}" for found in differences if found]
+        bad += [f"the programs differ\n{found}" for found in differences(model, list(batches(texts.values()))) if found]
     if bad:
         print(*bad, sep="\n")
         sys.exit("guide: it does not hold")

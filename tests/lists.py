@@ -1,8 +1,8 @@
 #!/usr/bin/env python3
 """The proved list call (02, item 6) and the independent program of the same rules (model/list_model.c) on files of calls, every byte equal.
 
-lists.py [SEEDS CALLS [PROGRAM]]    the files of the seeds 1 to SEEDS (model/make_lists.py), of CALLS calls each; 6 of 400 without arguments, 1 of 150
-                                    where programs run under the kit's emulator. PROGRAM is a built one, as target/bin/lists_main of `rt check lists_main`
+lists.py [SEEDS CALLS [PROGRAM]]    the files of the seeds 1 to SEEDS (model/make_lists.py), of CALLS calls each; 6 of 400 without arguments. PROGRAM is a
+                                    built one, as crates/lists_main/out/lists_main of `tools/build lists_main`
 
 Without PROGRAM, crates/lists_main is compiled from its source without its proof (tests/mutation/outside.py), since the gate has built nothing yet. A
 shorter file of each seed is also cut and spoiled in many places, and some files were worked out on paper (PAPER). `lists: N calls, M events agree` and
@@ -26,7 +26,6 @@ from pair import built_model  # noqa: E402
 
 NAME = "lists_main"
 SEEDS, CALLS = 6, 400
-EMULATED = 1, 150
 LONGEST = 60  # seconds of a run
 MOST_BYTES = 3000
 SHORT = 14  # calls of a file that is cut and spoiled
@@ -198,8 +197,8 @@ def asked(words):
         sys.exit(f"lists.py [SEEDS CALLS [PROGRAM]]: expected two numbers from 1 on and a program, found `{' '.join(words)}`")
     program = pathlib.Path(words[2]).resolve() if words[2:] else None
     if program and not os.access(program, os.X_OK):
-        sys.exit(f"lists: no program at {program}: `rt check {NAME}` builds target/bin/{NAME}; without PROGRAM it is compiled here, without its proof")
-    return *(map(int, numbers) if numbers else EMULATED if outside.runner() else (SEEDS, CALLS)), program
+        sys.exit(f"lists: no program at {program}: `tools/build {NAME}` makes crates/{NAME}/out/{NAME}; without PROGRAM it is compiled here, without its proof")
+    return *(map(int, numbers) if numbers else (SEEDS, CALLS)), program
 
 
 def main():
@@ -209,7 +208,7 @@ def main():
         work = pathlib.Path(folder)
         built_model(work)
         model = built_lists(work)
-        program = [*outside.runner(), program or built_program(work)]
+        program = [program or built_program(work)]
         on_paper(model, program)
         with concurrent.futures.ThreadPoolExecutor(os.cpu_count()) as pool:
             for one in pool.map(lambda seed: from_seed(model, program, work, seed, calls), range(1, seeds + 1)):

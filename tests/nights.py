@@ -1,8 +1,7 @@
 #!/usr/bin/env python3
 """The call-up board's program and the independent program of the same rules (model/board_model.c) on nights, every byte equal.
 
-nights.py [N [PROGRAM]]    the nights of the seeds 1 to N (model/make_nights.py), 400 without, 40 where programs run under the kit's emulator, which takes
-                           ten times as long; PROGRAM is one that is built already
+nights.py [N [PROGRAM]]    the nights of the seeds 1 to N (model/make_nights.py), 400 without; PROGRAM is one that is built already
 
 Without PROGRAM it is compiled from its source without its proof (tests/mutation/outside.py). Each night is run with and without --line. `nights: ..
 all alike` and what was met; every refusal and every reason that a text can meet must be. Each night is also held to its own text: the commands on the
@@ -26,7 +25,7 @@ import outside  # noqa: E402
 
 EXAMPLES = TESTS.parent / "examples/nights"
 NAME = "board_main"
-NIGHTS, EMULATED = 400, 40
+NIGHTS = 400
 LINES = (12, 40, 80, 120, 160)  # lines of a night, in turn
 LONGEST = 60  # seconds of a run
 VSYNC, END, GROUP = 0xAAF0, 18, 17
@@ -539,8 +538,7 @@ def asked(words):
     """Number of nights and program of the command line."""
     if len(words) > 2 or (words and not (words[0].isascii() and words[0].isdigit() and int(words[0]))):
         sys.exit(f"nights.py [N [PROGRAM]]: expected a number from 1 on and a program, found `{' '.join(words)}`")
-    many = EMULATED if outside.runner() else NIGHTS
-    return int(words[0]) if words else many, pathlib.Path(words[1]).resolve() if words[1:] else None
+    return int(words[0]) if words else NIGHTS, pathlib.Path(words[1]).resolve() if words[1:] else None
 
 
 def main():
@@ -548,7 +546,7 @@ def main():
     with tempfile.TemporaryDirectory() as folder:
         work = pathlib.Path(folder)
         model = built_model(work)
-        program = [*outside.runner(), program or built_program(work)]
+        program = [program or built_program(work)]
         met = collections.Counter()
         known = [*PAPER, *examples()]
         for number, (text, expected) in enumerate(known, 1):

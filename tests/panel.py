@@ -194,7 +194,7 @@ def pages(work):
     """Pages of nights against what the program prints of them."""
     for name, (night, bad, more) in NIGHTS.items():
         (work / name).write_bytes(night)
-        printed = subprocess.run([*outside.runner(), work / "board_main"], input=night, capture_output=True).stdout.decode()
+        printed = subprocess.run([work / "board_main"], input=night, capture_output=True).stdout.decode()
         done = called(work, [name])
         said = re.findall(r"^%s:(\d+): expected .*$" % re.escape(name), done.stderr.decode(), re.M)
         if done.returncode != bool(bad) or [int(one) for one in said] != bad or not done.stdout:
@@ -299,7 +299,7 @@ def otherwise(work):
     program = fake / "board_main"
     program.write_text("#!/bin/sh\ncat >/dev/null\ncat '%s'\n" % (fake / "printed"))
     program.chmod(0o755)
-    printed = subprocess.run([*outside.runner(), work / "board_main", "--line"], input=SMALL, capture_output=True).stdout.decode()
+    printed = subprocess.run([work / "board_main", "--line"], input=SMALL, capture_output=True).stdout.decode()
     (fake / "printed").write_text(printed)
     if called(work, ["small.txt"], programs=fake).stdout != (work / "small.txt.html").read_bytes():
         yield "the stand-in does not stand in"

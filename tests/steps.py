@@ -9,39 +9,27 @@ events were done and a sum over every note, SDO word and SOUT bit. It is compile
 import concurrent.futures
 import os
 import pathlib
-import shutil
 import subprocess
 import sys
 import tempfile
 
 TESTS = pathlib.Path(__file__).resolve().parent
-ROOT = TESTS.parent
 sys.dont_write_bytecode = True
 sys.path.insert(0, str(TESTS / "model"))
-from pair import built_model  # noqa: E402
+from pair import built_model, tried  # noqa: E402
 
 MOST = 65535 // 3  # the events that crates/speed takes of a script
 SEEDS, EVENTS = 8, 20_000
 MODES = ("step", "list")
 
 
-def compared(work, plain, seed, events, mode):
-    """What is wrong with this seed's script in this mode, or nothing."""
-    place = work / f"{mode}{seed}"
-    place.mkdir()
-    shutil.copytree(ROOT / "crates", place / "crates", ignore=shutil.ignore_patterns("proofs", "specs", "must-fail"))
-    shutil.copy(ROOT / "crates.txt", place)
-    program = place / "crates/speed"
+def case(plain, seed, events, mode):
+    """This seed's script in this mode, and what the plain C program prints of it."""
     script = subprocess.check_output([sys.executable, TESTS / "model/make_scripts.py", str(seed), str(events)])
     expected = subprocess.run([plain, "1", mode], input=script, capture_output=True, check=True).stdout
     if expected.split()[0] != str(events).encode():
-        return f"steps: seed {seed}, {mode}: plain.c did {expected.split()[0].decode()} events of {events}"
-    (program / "stdin").write_bytes(script)
-    (program / "args").write_text(f"1\n{mode}\n")
-    (program / "stdout").write_bytes(expected)
-    ran = subprocess.run(["rt", "try", "speed"], cwd=place, capture_output=True, text=True)
-    shutil.rmtree(place)
-    return None if ran.returncode == 0 else f"steps: seed {seed}, {mode}: the programs differ\n{ran.stdout[-1000:]}{ran.stderr[-1000:]}"
+        sys.exit(f"steps: seed {seed}, {mode}: plain.c did {expected.split()[0].decode()} events of {events}")
+    return script, ("1", mode), expected
 
 
 def asked(words):
@@ -62,9 +50,10 @@ def main():
         subprocess.check_call(["gcc", "-std=c11", "-O2", "-o", plain, TESTS / "speed/plain.c"])
         todo = [(seed, mode) for seed in range(1, seeds + 1) for mode in MODES]
         with concurrent.futures.ThreadPoolExecutor(os.cpu_count()) as pool:
-            found = [words for words in pool.map(lambda one: compared(work, plain, one[0], events, one[1]), todo) if words]
-    if found:
-        sys.exit("\n".join(found))
+            cases = list(pool.map(lambda one: case(plain, one[0], events, one[1]), todo))
+        bad = [f"steps: seed {seed}, {mode}: the programs differ\n{found}" for (seed, mode), found in zip(todo, tried("speed", cases)) if found]
+    if bad:
+        sys.exit("\n".join(bad))
     print(f"steps: {seeds * events} events agree one by one, and as many in lists")
 
 

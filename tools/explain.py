@@ -2,7 +2,7 @@
 """Says in words what each event of a script did.
 
     tools/bench --explain FILE        runs the script and says it
-    target/bin/states <FILE.cwb | tools/explain.py
+    crates/states/out/states <FILE.cwb | tools/explain.py
 
 Input: what the program `states` (crates/states) prints, the bench's line of each event and the columns of the state that it changed. So the
 words are about the state of the proved bridge; nothing here works out what it should be. The columns' names are those of

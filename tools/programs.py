@@ -2,9 +2,8 @@
 import os
 import pathlib
 import platform
-import shutil
 
-BUILT = pathlib.Path(__file__).resolve().parent.parent / "target/bin"
+CRATES = pathlib.Path(__file__).resolve().parent.parent / "crates"
 ELF, X86_64 = b"\x7fELF", 62  # how a program begins, and its machine: two bytes from 18 on, the low one first
 
 
@@ -24,15 +23,10 @@ def is_for_x86_64(program):
 def command(name, build="tools/build"):
     """How to start a program here."""
     folder = os.environ.get("BENCH_BIN")
-    program = pathlib.Path(folder or BUILT) / name
+    program = pathlib.Path(folder or CRATES / name / "out") / name
     if not os.access(program, os.X_OK):
         raise Failed("%s: there is no program that can be run: BENCH_BIN names that folder" % program if folder else
                      "%s is not built: run `%s`" % (program, build))
-    if platform.machine() in ("x86_64", "AMD64") or not is_for_x86_64(program):
-        return [str(program)]
-    rt = shutil.which("rt")
-    found = list(pathlib.Path(rt).resolve().parents[1].rglob("qemu-x86_64")) if rt else []
-    if not found:
-        raise Failed("%s is for x86-64, and the kit's emulator is not found beside `rt`" % program)
-    tools = found[0].parents[1]
-    return [str(found[0]), str(tools / "lib/ld-linux-x86-64.so.2"), "--library-path", str(tools / "lib"), str(program)]
+    if platform.machine() not in ("x86_64", "AMD64") and is_for_x86_64(program):
+        raise Failed("%s is for x86-64, this machine is %s" % (program, platform.machine()))
+    return [str(program)]

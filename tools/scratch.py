@@ -1,4 +1,4 @@
-"""A copy of one crate among links to the others, in which a question can be put to the toolchain and nothing of the repository changes."""
+"""How the tools put a question to the toolchain so that nothing of the repository changes, and what its words about wrong changes come to."""
 import contextlib
 import pathlib
 import re
@@ -8,57 +8,45 @@ import sys
 import tempfile
 
 ROOT = pathlib.Path(__file__).resolve().parent.parent
-UNFIT = re.compile(r"can be named from here|is not in scope|unknown name|expects? \d+ arguments?|(?:expected|has) type `tie\.Need|binders?, but its type has room"
-                   r"|no proof of `denote\.Triple")
+TOLD = re.compile(r"(?:rt: )?must-fail (\w+)/(\S+)\.edit: (refused, as it must be|NOT REFUSED|BAD EDIT|NOT TRIED)(?:: | ?)(.*)")
+VERDICTS = {"refused, as it must be": "refused", "NOT REFUSED": "taken", "BAD EDIT": "no program", "NOT TRIED": "not tried"}
+UNFIT = "(only because a proof file names"
 
 
 @contextlib.contextmanager
-def copy_of(crate):
-    """The folder of the repository's stand-in; the crate's copy is crates/CRATE in it."""
+def copied():
+    """The folder of a copy of all crates, without what is built: the toolchain begins there with what it kept of the same crates here."""
     with tempfile.TemporaryDirectory() as folder:
         place = pathlib.Path(folder)
-        (place / "crates").mkdir()
-        for other in (ROOT / "crates").iterdir():
-            if other.name != crate:
-                (place / "crates" / other.name).symlink_to(other)
-        shutil.copytree(ROOT / "crates" / crate, place / "crates" / crate)
-        shutil.copy(ROOT / "crates.txt", place)
-        (place / "target").symlink_to(ROOT / "target")
+        shutil.copytree(ROOT / "crates", place / "crates", ignore=shutil.ignore_patterns("out"))
+        for name in ("crates.txt", "HANDLES"):
+            if (ROOT / name).exists():
+                shutil.copy(ROOT / name, place)
         yield place
 
 
-def checked(place, crate):
-    """Status and words of `rt dev`."""
-    ran = subprocess.run(["rt", "dev", crate], cwd=place, capture_output=True, text=True)
-    return ran.returncode, ran.stdout + ran.stderr
+def tried(place, crates):
+    """(crate, edit, verdict, why) of each must-fail edit of these crates, by `rt must-fail` in this copy of the repository; and all that it said.
+
+    `taken`: nothing is wrong; `refused`: a fact of some function fails, or a theorem; `unfit`: no more than a name of a proof file is gone, which says
+    little of what the code does; `no program`: the edit cannot be made, or what it makes is not read; `not tried`: nothing is known.
+    """
+    ran = subprocess.run(["rt", "must-fail", *crates], cwd=place, stdin=subprocess.DEVNULL, stdout=subprocess.PIPE, stderr=subprocess.STDOUT, text=True)
+    found = [match.groups() for match in map(TOLD.match, ran.stdout.splitlines()) if match]
+    return [(crate, edit, "unfit" if why.startswith(UNFIT) else VERDICTS[word], why) for crate, edit, word, why in found], ran.stdout
 
 
 def asked(place, crate):
-    """How many needs the proof file of each function has to answer; functions without one are left out."""
-    with tempfile.TemporaryDirectory() as folder:
-        subprocess.run(["rt", "dev", crate, "--generated", folder], cwd=place, capture_output=True)
-        ties = {file.parent.relative_to(folder).as_posix().partition("/proofs/")[2]: file.read_text() for file in pathlib.Path(folder).rglob("Tie.antt")}
-    proofs = place / "crates" / crate / "proofs"
-    return {name: text.count("(answer : Need-") for name, text in ties.items() if (proofs / name / "Proof.antt").is_file()}
-
-
-def judged(status, said, crate):
-    """What the toolchain's words about a changed crate come to, and the functions or theorems that failed.
-
-    `taken`: nothing is wrong; `refused`: the code is good Rattle, its proof files still fit it, and a fact of some function fails, or a theorem; `unfit`: a
-    proof file no longer fits, which says nothing about what the code does; `no program`: it does not compile.
-    """
-    if status == 0:
-        return "taken", []
-    if UNFIT.search(said):
-        return "unfit", []
-    failed = re.findall(rf"^fn ({crate}::\S+): (?:not proved|no proof)", said, re.M) or re.findall(r"/proofs/\S+: error: `([^`]+)`", said)[:1]
-    return ("refused" if failed else "no program"), failed
+    """How many goals the proof file of each function has to answer in their order; functions without one are left out."""
+    folder = place / "crates" / crate
+    with tempfile.TemporaryDirectory() as made:
+        subprocess.run(["rt", "check", "--generated", made], cwd=folder, stdin=subprocess.DEVNULL, capture_output=True)
+        root = pathlib.Path(made) / ("Rattle-%s-proofs" % crate)
+        ties = {file.parent.relative_to(root).as_posix(): file.read_text() for file in root.rglob("Tie.antt")}
+    return {name: text.count("(answer : Need-") for name, text in ties.items() if (folder / "proofs" / name / "Proof.antt").is_file()}
 
 
 def known(tool, crate):
-    """Leaves where there is no such crate, or nothing is built."""
+    """Leaves where there is no such crate."""
     if not (ROOT / "crates" / crate / "src").is_dir():
         sys.exit("%s: no crate %s" % (tool, crate))
-    if not (ROOT / "target").is_dir():
-        sys.exit("%s: nothing is built: run `rt check %s`" % (tool, crate))

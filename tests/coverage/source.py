@@ -48,8 +48,8 @@ class Function:
 
 
 def tokens(text):
-    """(word, line) without comments and `ghost use`."""
-    text = re.sub(r"^ghost use[^;]*;", lambda found: re.sub(r"[^\n]", " ", found[0]), text, flags=re.M)
+    """(word, line) without comments, attributes and `ghost use`."""
+    text = re.sub(r"^ghost use[^;]*;|#!?\[[^\]]*\]", lambda found: re.sub(r"[^\n]", " ", found[0]), text, flags=re.M)
     for found in TOKEN.finditer(text):
         if not found[0].startswith("//"):
             yield found[0], text.count("\n", 0, found.start()) + 1
@@ -177,7 +177,7 @@ def function_at(words, i, crate, file):
     while words[at][0] != "{":
         at = until(words, at, ("{", *CLAUSES))
         if words[at][0] in CLAUSES:
-            at = closing(words, at + 1) + 1
+            at = closing(words, until(words, at, ("{",))) + 1
     end = closing(words, at)
     tests = [test_at(words, k) for k in range(at, end) if is_test(words, k)]
     mark = hashlib.sha256(spelled(words[at:end + 1]).encode()).hexdigest()[:8]

@@ -6,7 +6,7 @@ firmware.py [SEEDS EVENTS]    random scripts of EVENTS events for the seeds 1 to
 
 It runs twice, plain and with gcc's sanitizers, which watch the C side. Further scripts are the texts of examples/, examples/host and tests/edges, and the
 scripts of broken.py, which are none. Every note that a script can meet must come. Then what no script can show: memory that was damaged
-(damaged.c), a script that cannot be read, and examples/firmware/shortest.c. It needs target/bin/bench, which `rt ci` and tools/build make.
+(damaged.c), a script that cannot be read, and examples/firmware/shortest.c. It needs crates/bench/out/bench, which tools/build makes.
 """
 import collections
 import concurrent.futures

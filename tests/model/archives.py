@@ -1,7 +1,7 @@
 """The proved libraries for C, and programs that are linked with them (tests/linked).
 
-ICELICHEN_ARCHIVES in the environment names a folder with both archives; then nothing is proved. The gate has made them when these tests come, and `rt` would
-prove the libraries themselves anew for each test.
+ICELICHEN_ARCHIVES in the environment names a folder with both archives; then nothing is proved: the gate has made them when these tests come. Else `rt lib`
+makes each in its crate's folder.
 """
 import functools
 import os
@@ -35,9 +35,9 @@ def missing(*tools):
 def made(name):
     """A library's archive; `rt` proves what is not proved yet."""
     folder = os.environ.get("ICELICHEN_ARCHIVES")
-    archive = pathlib.Path(folder or ROOT / "target/staticlib") / f"lib{name}.a"
+    archive = pathlib.Path(folder or ROOT / "crates" / name / "out") / f"lib{name}.a"
     if not folder:
-        ran = subprocess.run(["rt", "staticlib", name], cwd=ROOT, capture_output=True, text=True)
+        ran = subprocess.run(["rt", "lib"], cwd=ROOT / "crates" / name, stdin=subprocess.DEVNULL, capture_output=True, text=True)
         if ran.returncode:
             raise Wrong(f"{name} is not built\n" + (ran.stdout + ran.stderr)[-2000:])
     if not archive.exists():

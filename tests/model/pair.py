@@ -1,10 +1,9 @@
 """The independent program and the bench program on the same script."""
 import os
 import pathlib
-import platform
-import shutil
 import subprocess
 import sys
+import tempfile
 
 MODEL = pathlib.Path(__file__).resolve().parent
 ROOT = MODEL.parents[1]
@@ -12,8 +11,9 @@ MOST_OUTPUT = 1 << 20  # bytes that `rt try` lets a program print
 HEAD = b"CWB\x00\x01"
 POWER_UP = b"\x00\x00\x01"
 RECORD = len(POWER_UP)  # bytes of an event
-# the gate's random scripts (make_scripts.py): seeds 1 to SEEDS, of EVENTS events each; fewer under the kit's emulator, where `rt try` ends longer runs
-SEEDS, EVENTS = 35, 60_000 if platform.machine() in ("x86_64", "AMD64") else 20_000
+SEEDS, EVENTS = 35, 60_000  # the gate's random scripts (make_scripts.py): seeds 1 to SEEDS, of EVENTS events each
+ALIKE = "run=ended status=0 "  # how the line of a case goes on that ended by itself ..
+SAME = " output=expected "  # .. and printed what was expected
 
 
 def built_model(work):
@@ -34,20 +34,42 @@ def joined(texts):
     return script
 
 
-def difference(place, model, script):
-    """None where both programs print the same on the script; else what was found. `place` is a folder to work in.
+def tried(program, cases):
+    """Runs a program of the repository on each of the cases, (standard input, arguments, expected output): for each None where it prints what is
+    expected and ends with status 0, else what was found.
 
-    The bench program is compiled from its source and run without its proof, at -O0, at -O3 and with the compiler's assumptions checked, so that
-    nothing has to be built before.
+    It is compiled once from its source and run without its proof, with the compiler's assumptions checked, so that nothing has to be built before.
     """
-    bench = place / "crates/bench"
-    shutil.copytree(ROOT / "crates", place / "crates", ignore=shutil.ignore_patterns("proofs", "specs", "must-fail"))
-    shutil.copy(ROOT / "crates.txt", place)
-    (bench / "stdin").write_bytes(script)
-    expected = subprocess.check_output([model, bench / "stdin"])
-    if len(expected) > MOST_OUTPUT:
-        return f"the script prints {len(expected)} bytes, and {MOST_OUTPUT} can be compared"
-    (bench / "stdout").write_bytes(expected)
-    ran = subprocess.run(["rt", "try", "bench"], cwd=place, capture_output=True, text=True)
-    shutil.rmtree(place / "crates")
-    return None if ran.returncode == 0 else ran.stdout[-1000:] + ran.stderr[-1000:]
+    for _, _, expected in cases:
+        if len(expected) > MOST_OUTPUT:
+            return [f"a script prints {len(expected)} bytes, and {MOST_OUTPUT} can be compared"] * len(cases)
+    with tempfile.TemporaryDirectory() as folder:
+        for number, (given, arguments, expected) in enumerate(cases):
+            name = pathlib.Path(folder) / f"case{number}"
+            name.write_bytes(given)
+            name.with_suffix(".stdout").write_bytes(expected)
+            if arguments:
+                name.with_suffix(".args").write_text("".join(f"{word}\n" for word in arguments))
+        ran = subprocess.run(["rt", "try", "--cases", folder], cwd=ROOT / "crates" / program, stdin=subprocess.DEVNULL, capture_output=True)
+    lines, said = {}, []
+    for line in ran.stderr.decode(errors="replace").splitlines():
+        said.append(line)
+        if line.startswith("case="):
+            lines[line.split()[0]] = line, "\n".join(said[-20:])
+            said = []
+    found = []
+    for number in range(len(cases)):
+        line, words = lines.get(f"case=case{number}", ("", ran.stdout.decode(errors="replace")[-1000:] + "\n".join(said)[-1000:]))
+        found.append(None if f" {ALIKE}" in line and SAME in line else words)
+    return found
+
+
+def differences(model, scripts):
+    """For each script None where both programs print the same, else what was found."""
+    printed = [subprocess.run([model], input=script, capture_output=True, check=True).stdout for script in scripts]
+    return tried("bench", [(script, (), expected) for script, expected in zip(scripts, printed)])
+
+
+def difference(model, script):
+    """The same of one script."""
+    return differences(model, [script])[0]

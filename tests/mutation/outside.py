@@ -11,9 +11,9 @@ orders at their limits (tests/frames_text.py). Told: another byte, another exit 
 Where no run can tell a change, the list says why; exit status 1 where a change is not told and has no reason, or is told and has one.
 """
 import concurrent.futures
+import functools
 import os
 import pathlib
-import platform
 import queue
 import resource
 import shutil
@@ -33,6 +33,7 @@ from broken import SCRIPTS as BROKEN  # noqa: E402
 
 BENCH = "bench"
 LONGEST = 60  # seconds of one run; the longest takes two
+COMPILING = 600  # seconds of one compilation; on a busy machine it takes two minutes
 MOST_WRITTEN = 1 << 26  # bytes of a file: a changed program may print without end
 NO_PROGRAM = "does not compile"
 NOT_TOLD = "not told"
@@ -41,39 +42,41 @@ NOT_TOLD = "not told"
 def kit():
     """The kit that `rt` stands in."""
     found = shutil.which("rt") or sys.exit("outside: the Rattle kit's `rt` is not to be found")
-    return pathlib.Path(os.environ.get("RATTLE_HOME") or pathlib.Path(found).resolve().parents[1])
+    return pathlib.Path(found).resolve().parents[1]
 
 
-def linked(real, shadow, but):
-    """A folder of links to all that `real` has, but one name."""
+def linked(real, shadow, *but):
+    """A folder of links to all that `real` has, but some names."""
     shadow.mkdir(parents=True)
     for part in real.iterdir():
-        if part.name != but:
+        if part.name not in but:
             (shadow / part.name).symlink_to(part)
 
 
-def shadow_kit(place):
-    """The kit by links, where the linker leaves what it made as place/program.
-
-    `rt try` compiles a program three ways, the checked one last, runs each on one input and throws it away; so each is kept as it is linked. The
-    compilation at -O3 is not looked at here, and is made at -O0 to save its time.
-    """
-    own = pathlib.Path("on") / platform.machine()
-    tools = own / "toolchain"
-    shadow = place / "kit"
-    if not (kit() / tools / "bin/ld.lld").exists():
-        sys.exit(f"outside: the kit has no linker at {tools}/bin/ld.lld, and programs are kept by standing in for it")
-    linked(kit(), shadow, "on")
-    linked(kit() / own, shadow / own, "toolchain")
-    linked(kit() / tools, shadow / tools, "bin")
-    linked(kit() / tools / "bin", shadow / tools / "bin", "clang")
-    real = kit() / tools / "bin"
-    (shadow / tools / "bin/ld.lld").unlink()
-    scripts = {"clang": f'for word; do shift; [ "$word" = -O3 ] && word=-O0; set -- "$@" "$word"; done\nexec "{real}/clang" "$@"\n',
-               "ld.lld": f'"{real}/ld.lld" "$@" && /bin/cp program "{place}/program"\n'}
+def shadow_kit(shadow, **scripts):
+    """The kit by links, but for these programs of its toolchain, each a script here; `rt` finds its kit by where its own files stand, so they are copied."""
+    tools, own = pathlib.Path("toolchain/bin"), ("rt", "rtlib.py")
+    missing = [name for name in scripts if not (kit() / tools / name).exists()]
+    if missing:
+        sys.exit(f"outside: the kit has no {tools}/{missing[0]}, for which a script stands in here")
+    linked(kit(), shadow, "toolchain", "bin")
+    linked(kit() / "toolchain", shadow / "toolchain", "bin")
+    linked(kit() / tools, shadow / tools, *scripts)
+    linked(kit() / "bin", shadow / "bin", *own)
+    for name in own:
+        shutil.copy(kit() / "bin" / name, shadow / "bin")
     for name, script in scripts.items():
-        (shadow / tools / "bin" / name).write_text("#!/bin/sh\n" + script)
-        (shadow / tools / "bin" / name).chmod(0o755)
+        (shadow / tools / name).write_text("#!/bin/sh\n" + script)
+        (shadow / tools / name).chmod(0o755)
+
+
+def keeping_kit(place):
+    """A kit whose linker leaves the program as place/program, and ends there.
+
+    `rt try` compiles a program with its checks, runs it on one input and throws it away; so it is kept as it is linked, and is not run.
+    """
+    real = kit() / "toolchain/bin/ld.lld"
+    shadow_kit(place / "kit", **{"ld.lld": f'"{real}" "$@" && /bin/cp program "{place}/program"\nexit 1\n'})
 
 
 def copies(folder, many):
@@ -84,16 +87,16 @@ def copies(folder, many):
         unread = shutil.ignore_patterns("proofs", "specs", "must-fail", "stdin", "stdout", "args")
         shutil.copytree(ROOT / "crates", place / "crates", ignore=unread)
         shutil.copy(ROOT / "crates.txt", place)
-        shadow_kit(place)
+        keeping_kit(place)
         free.put(place)
     return free
 
 
-def ended(words, **how):
+def ended(words, longest=LONGEST, **how):
     """Exit status of a command, None where it took too long; nothing that it started is left."""
     with subprocess.Popen(words, start_new_session=True, **how) as process:
         try:
-            return process.wait(LONGEST)
+            return process.wait(longest)
         except subprocess.TimeoutExpired:
             os.killpg(process.pid, signal.SIGKILL)
             return None
@@ -103,18 +106,9 @@ def compiled(place, name):
     """True where the program `name` of the copy was compiled, to place/program."""
     program = place / "program"
     program.unlink(missing_ok=True)
-    home = {**os.environ, "RATTLE_HOME": str(place / "kit")}
     with open(place / "said", "wb") as said:
-        ended(["rt", "try", name], cwd=place, stdin=subprocess.DEVNULL, stdout=said, stderr=said, env=home)
+        ended([place / "kit/bin/rt", "try"], COMPILING, cwd=place / "crates" / name, stdin=subprocess.DEVNULL, stdout=said, stderr=said)
     return program.exists()
-
-
-def runner():
-    """What stands before a program's name: nothing on x86-64, else the kit's emulator."""
-    if platform.machine() == "x86_64":
-        return []
-    tools = kit() / "on" / platform.machine() / "toolchain"
-    return [tools / "bin/qemu-x86_64", tools / "lib/ld-linux-x86-64.so.2", "--library-path", tools / "lib"]
 
 
 def tells(place, case):
@@ -122,7 +116,7 @@ def tells(place, case):
     _, _, arguments, stdin, expected = case
     printed = place / "printed"
     with open(stdin, "rb") as given, open(printed, "wb") as out:
-        status = ended([*runner(), place / "program", *arguments], stdin=given, stdout=out, stderr=subprocess.DEVNULL)
+        status = ended([place / "program", *arguments], stdin=given, stdout=out, stderr=subprocess.DEVNULL)
     return status != 0 or printed.read_bytes() != expected.read_bytes()
 
 
@@ -172,13 +166,18 @@ def cases(work):
 
 
 def crates_below():
-    """Each crate of crates.txt with all that its code has, itself too. The lowest stand first there."""
-    below = {}
+    """Each crate of crates.txt with all that its code has, itself too."""
+    named = {}
     for line in (ROOT / "crates.txt").read_text().splitlines():
         name, _, deps = line.partition("#")[0].partition(":")
         if name.strip():
-            below[name.strip()] = {name.strip()}.union(*(below.get(dep, {dep}) for dep in deps.split()))
-    return below
+            named[name.split()[0]] = deps.split()
+
+    @functools.cache
+    def below(name):
+        return {name}.union(*(below(dep) for dep in named.get(name, ())))
+
+    return {name: below(name) for name in named}
 
 
 def judged(place, change, todo):

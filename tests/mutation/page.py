@@ -27,7 +27,7 @@ Each changes one place of the code of the bridge, of the host frames or of the c
   tells the change is named. `not told`: none of them does, and below stands why no run can.
 
 `python3 tests/mutation/run.py --write` asks the prover again (the crates must be proved), `python3 tests/mutation/outside.py --write` runs again
-(nothing need be proved); each keeps its verdicts and writes this page. Neither is part of the gate; the must-fail edits of the crates are, and so
+(nothing need be proved); each keeps its verdicts and writes this page. The prover's verdicts below are those of the older kit, before the port (docs/PORT.md). Neither is part of the gate; the must-fail edits of the crates are, and so
 is all that tells a change here.
 """
 

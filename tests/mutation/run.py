@@ -1,56 +1,46 @@
 #!/usr/bin/env python3
-"""Tries every small wrong change of changes.tsv, one at a time: the prover must refuse each.
+"""Tries every small wrong change of changes.tsv, one at a time, as a must-fail edit: the prover must refuse each.
 
 run.py [--write] [CRATE..]    all of the list, or those of the named crates; --write keeps the verdicts and makes docs/MUTATION.md anew
 
 A line of the list: crate, file under its src/, function, kind of change, the text before and after; the text before stands once in the file. A
 seventh part says why the change is none: then the prover must take it. An eighth says why no run can tell it (outside.py). A change of the kind
-`turned` leaves the meaning: the prover may take it or not. The crates must be proved (`rt check`). Each change is made in a copy of the
-repository, and the changed crate is checked there; what its verdict means says `judged` (tools/scratch.py).
+`turned` leaves the meaning: the prover may take it or not. The crates must prove; what was checked here before (`rt check` in a crate's folder) is
+not checked again. The changes are tried in a copy of the repository in place of its own edits; what a verdict means says `tried` (tools/scratch.py).
 """
-import concurrent.futures
-import os
-import pathlib
-import queue
 import shutil
-import subprocess
 import sys
-import tempfile
 
-from listed import ROOT, changed, changes, store
+from listed import ROOT, changes, store
 from page import PROVER, write_page
 
 sys.path.insert(0, str(ROOT / "tools"))
-from scratch import judged  # noqa: E402
-
-def copies(folder, many):
-    """Copies of the repository, for one change at a time each."""
-    free = queue.Queue()
-    for i in range(many):
-        place = pathlib.Path(folder) / str(i)
-        place.mkdir()
-        shutil.copytree(ROOT / "crates", place / "crates")
-        shutil.copytree(ROOT / "target", place / "target", symlinks=True)
-        shutil.copy(ROOT / "crates.txt", place)
-        free.put(place)
-    return free
+import scratch  # noqa: E402
 
 
-def tried(free, change):
-    place = free.get()
-    file = place / "crates" / change.crate / "src" / change.file
-    good = None
-    try:
-        good = changed(file, change)
-        if good is None:
-            return "NOT FOUND ONCE", ""
-        ran = subprocess.run(["rt", "dev", change.crate], cwd=place, capture_output=True, text=True, env={**os.environ, "RT_CUT": "0"})
-        said = ran.stdout + ran.stderr
-        return judged(ran.returncode, said, change.crate)[0], said
-    finally:
-        if good is not None:
-            file.write_text(good)
-        free.put(place)
+def as_edits(place, todo):
+    """Makes the changes the only must-fail edits of the copy: each by its crate and the edit's name."""
+    for folder in place.glob("crates/*/must-fail"):
+        shutil.rmtree(folder)
+    named = {}
+    for number, change in enumerate(todo):
+        folder = place / "crates" / change.crate / "must-fail"
+        folder.mkdir(exist_ok=True)
+        (folder / f"change{number}.edit").write_text(f"file: src/{change.file}\nold: {change.before}\nnew: {change.after}\n")
+        named[change.crate, f"change{number}"] = change
+    return named
+
+
+def verdicts_on(todo):
+    """Each change with its verdict and why, those of one crate together."""
+    with scratch.copied() as place:
+        named = as_edits(place, todo)
+        for crate in dict.fromkeys(change.crate for change in todo):
+            found, said = scratch.tried(place, [crate])
+            wanted = [change for (name, _), change in named.items() if name == crate]
+            if len(found) != len(wanted):
+                sys.exit(f"mutation: {crate}: {len(found)} of {len(wanted)} changes have a verdict\n{said[-1500:]}")
+            yield from ((named[crate, edit], verdict, why) for _, edit, verdict, why in found)
 
 
 def is_expected(change, verdict):
@@ -62,16 +52,12 @@ def is_expected(change, verdict):
 def main():
     words = [word for word in sys.argv[1:] if word != "--write"]
     todo = changes(words)
-    many = min(len(todo), int(os.environ.get("RT_JOBS", os.cpu_count())))
     results = []
-    with tempfile.TemporaryDirectory() as folder:
-        free = copies(folder, many)
-        with concurrent.futures.ThreadPoolExecutor(many) as pool:
-            for change, (verdict, said) in zip(todo, pool.map(lambda change: tried(free, change), todo)):
-                results.append((change, verdict))
-                print(f"{len(results)}/{len(todo)}", verdict, *change[:3], change.before, "->", change.after, flush=True)
-                if not is_expected(change, verdict):
-                    print(said[-1500:])
+    for change, verdict, why in verdicts_on(todo):
+        results.append((change, verdict))
+        print(f"{len(results)}/{len(todo)}", verdict, *change[:3], change.before, "->", change.after, flush=True)
+        if not is_expected(change, verdict):
+            print(why)
     if "--write" in sys.argv:
         store(PROVER, results)
         write_page()

@@ -1,11 +1,11 @@
 #!/usr/bin/env python3
 """The bridge's speed beside a plain C program of the same rules that tests the same record rules (plain.c), in one run.
 
-measure.py                   needs the proved program (`rt check speed`), gcc, and an x86-64 machine, where both run natively
+measure.py                   needs the proved program (`tools/build speed`), gcc, and an x86-64 machine, where both run natively
 measure.py --instructions    counts instructions instead, with valgrind: the same whatever else the machine does; one event's are those of a
                              second round over its events
 measure.py --header          the library for programs in C in place of the proved program, through include/icelichen_bridge.h (header.c): it needs the
-                             archive (`rt staticlib icelichen_bridge`) and no proved program; with --instructions too. ICELICHEN_ARCHIVES in the
+                             archive (`rt lib` in crates/icelichen_bridge) and no proved program; with --instructions too. ICELICHEN_ARCHIVES in the
                              environment names a folder with an archive that was made elsewhere
 
 Each workload runs in both programs by turns, nine times; the least processor time of each counts, user's and system's together, since the kernel
@@ -24,8 +24,8 @@ import tempfile
 
 HERE = pathlib.Path(__file__).resolve().parent
 ROOT = HERE.parents[1]
-OURS = ROOT / "target/bin/speed"
-ARCHIVE = pathlib.Path(os.environ.get("ICELICHEN_ARCHIVES") or ROOT / "target/staticlib") / "libicelichen_bridge.a"
+OURS = ROOT / "crates/speed/out/speed"
+ARCHIVE = pathlib.Path(os.environ.get("ICELICHEN_ARCHIVES") or ROOT / "crates/icelichen_bridge/out") / "libicelichen_bridge.a"
 IN_HEADER = ("step", "list", "drain")  # modes that include/icelichen_bridge.h has functions for
 sys.dont_write_bytecode = True
 sys.path[:0] = [str(HERE.parent / "model"), str(ROOT / "tools")]
@@ -219,10 +219,10 @@ def check_machine(tools, header):
         if not shutil.which(tool):
             sys.exit(f"speed: {tool} is not found")
     if header and not ARCHIVE.exists():
-        print(f"speed: there is no {ARCHIVE.name}: run `rt staticlib icelichen_bridge`", file=sys.stderr)
+        print(f"speed: there is no {ARCHIVE.name}: run `rt lib` in crates/icelichen_bridge", file=sys.stderr)
         sys.exit(2)
     if not header and not OURS.exists():
-        sys.exit("speed: target/bin/speed is not built: run `rt check speed`")
+        sys.exit("speed: crates/speed/out/speed is not built: run `tools/build speed`")
     if platform.machine() != "x86_64":
         sys.exit("speed: both programs are measured natively on x86-64 only")
 

@@ -1,7 +1,7 @@
 #!/usr/bin/env python3
 """What an event through include/icelichen_bridge.h goes into, in instructions (valgrind): one event a call, of a second round over its events.
 
-parts.py    needs the archive (`rt staticlib icelichen_bridge`, or ICELICHEN_ARCHIVES), gcc, valgrind and an x86-64 machine; half a minute
+parts.py    needs the archive (`rt lib` in crates/icelichen_bridge, or ICELICHEN_ARCHIVES), gcc, valgrind and an x86-64 machine; half a minute
 
 all       with the calling program (header.c)
 read      `cells::lent` by itself: the record read from the lent cells, compared with what the next column makes, handed on

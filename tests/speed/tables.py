@@ -1,17 +1,16 @@
 #!/usr/bin/env python3
 """What the CRC's table costs (02 item 5): the code with the table of sixteen entries, and with that of 256 in its place, in one run.
 
-tables.py    needs the proved program (`rt check speed`), gcc, valgrind and an x86-64 machine; three to five minutes
+tables.py    needs the proved program (`tools/build speed`), gcc, valgrind and an x86-64 machine; the time of two checks of the crates behind it
 
-For the second the calls of `crc16` in a copy of the crates are made calls of `crc16_wide`, whose contract is the same. Both are compiled by the kit without
-their proof; the first must have the proved program's code, function by function. Printed are
+For the second the calls of `crc16` in a copy of the crates are made calls of `crc16_wide`, whose contract is the same. Both are proved and compiled by the
+kit; the first must have the proved program's code, function by function. Printed are
 - bytes of code and of constants: of a program that hands events to `step` and drains, and does nothing else, which is what a controller takes, as an
-  object and linked; and of the library for C (`rt staticlib icelichen_frames`), which is proved anew with either table;
+  object and linked; and of the library for C (`rt lib` in crates/icelichen_frames);
 - instructions (valgrind) and nanoseconds (the least of nine, by turns, processor time) of a forward's data word, of a word on the line drained, and of a
   word on the line with one tick a call, sent and read back; each beside the plain C program (plain.c). A word's cost is that of many words less that of
   the rest of the script by itself.
 """
-import os
 import pathlib
 import platform
 import re
@@ -24,38 +23,46 @@ from measure import FULL, HEAD, POWER_UP, TIMES, asked_for_help, echoed, forward
 
 HERE = pathlib.Path(__file__).resolve().parent
 ROOT = HERE.parents[1]
-sys.path[:0] = [str(ROOT / "tests/mutation"), str(ROOT / "tests/coverage")]
+sys.path.insert(0, str(ROOT / "tests/coverage"))
 from controller import LINKED  # noqa: E402
-from outside import kit, linked  # noqa: E402
 from pair import built_model  # noqa: E402
 
 WORDS = 512  # of the commands on the line, and of the longest forward
 TICKS = 9000  # more than their bits
 LIBRARY = "icelichen_frames"
-CONTROLLER = """use libc::STDIN_FILENO;
-use libc::STDOUT_FILENO;
+CONTROLLER = """#![tactic(auto)]
+
 use script::Record;
 use state::Bridge;
+use std::io;
+use std::io::{Print, Read};
 
-fn stepped(bridge: Bridge, tx: &mut [u16], rx: &mut [u16], bytes: [u8; 3]) -> Bridge {
+fn stepped(rt: &impl Print, bridge: Bridge, tx: &mut [u16], rx: &mut [u16], bytes: [u8; 3]) -> io::Result<Bridge> {
     let Record::Good(event) = script::read(bytes[0], script::value(bytes[1], bytes[2])) else {
-        return bridge;
+        return Ok(bridge);
     };
     let answer = bridge::step(bridge, tx, rx, event);
-    io::print_decimal(STDOUT_FILENO, answer.sdo as u64);
-    answer.state
+    print!(rt; "{}", answer.sdo)?;
+    Ok(answer.state)
 }
 
-fn main() {
+fn run(rt: &impl Print, input: &mut impl Read) -> io::Result<()> {
     let mut tx = [0u16; 512];
     let mut rx = [0u16; 256];
     let mut bytes = [0u8; 3];
     let mut bridge = Bridge::good();
-    while io::read_full(STDIN_FILENO, &mut bytes) == 3 {
-        bridge = stepped(bridge, &mut tx, &mut rx, bytes);
+    for _ in 0..u64::MAX {
+        if console::read_full(input, &mut bytes)? < 3 {
+            break;
+        }
+        bridge = stepped(rt, bridge, &mut tx, &mut rx, bytes)?;
     }
     let answer = drain::drain(bridge, &mut tx, &mut rx, 1000000);
-    io::print_decimal(STDOUT_FILENO, answer.ticks as u64);
+    print!(rt; "{}", answer.ticks)
+}
+
+fn main(rt: HostRuntime) -> io::Result<()> {
+    run(&rt, &mut rt.stdin())
 }
 """
 WIDE = "crc16_wide"
@@ -65,58 +72,37 @@ def told(text):
     print(f"tables: {text} ..", file=sys.stderr, flush=True)
 
 
-def shadow_kit(place):
-    """The kit by links; what is compiled at -O3 is left as place/object, and linked as place/program."""
-    own = pathlib.Path("on") / platform.machine()
-    tools, shadow = own / "toolchain", place / "kit"
-    linked(kit(), shadow, "on")
-    linked(kit() / own, shadow / own, "toolchain")
-    linked(kit() / tools, shadow / tools, "bin")
-    linked(kit() / tools / "bin", shadow / tools / "bin", "clang")
-    real = kit() / tools / "bin"
-    (shadow / tools / "bin/ld.lld").unlink()
-    mark = f'rm -f "{place}/fast"\ncase " $* " in *" -O3 "*) : > "{place}/fast" ;; esac\n'
-    kept = {"clang": ("module.o", "object", mark), "ld.lld": ("program", "program", "")}
-    for name, (made, copy, first) in kept.items():
-        script = f'#!/bin/sh\n{first}"{real}/{name}" "$@" || exit\n[ ! -e "{place}/fast" ] || /bin/cp {made} "{place}/{copy}"\n'
-        (shadow / tools / "bin" / name).write_text(script)
-        (shadow / tools / "bin" / name).chmod(0o755)
-
-
 def copied(place, wide):
     """The crates, whose calls of the CRC go to the table of 256 entries where `wide`."""
-    shutil.copytree(ROOT / "crates", place / "crates")
+    shutil.copytree(ROOT / "crates", place / "crates", ignore=shutil.ignore_patterns("out"))
     text = (ROOT / "crates.txt").read_text()
-    text += f"controller: {' '.join(LINKED)} script io libc\n"
-    (place / "crates.txt").write_text(re.sub(r"^(?!crc16)(.*) crc16 (?!crc16_wide)", rf"\1 crc16 {WIDE} ", text, flags=re.M) if wide else text)
+    text += f"controller: {' '.join(LINKED)} script console\n"
+    (place / "crates.txt").write_text(re.sub(r"^(?!crc16)(.*) crc16(?= |$)(?! crc16_wide)", rf"\1 crc16 {WIDE}", text, flags=re.M) if wide else text)
     (place / "crates/controller/src").mkdir(parents=True)
     (place / "crates/controller/src/main.rt").write_text(CONTROLLER)
-    (place / "crates/controller/stdout").write_text("0")
     if wide:
         for name in (*LINKED, "frames"):
             for file in (place / "crates" / name / "src").glob("*.rt") if name != "crc16" else ():
                 file.write_text(file.read_text().replace("crc16::crc_", f"{WIDE}::crc_"))
 
 
+def made(command, folder):
+    ran = subprocess.run(["rt", command], cwd=folder, stdin=subprocess.DEVNULL, capture_output=True, text=True)
+    if ran.returncode:
+        sys.exit(f"tables: {folder.name} is not proved\n" + (ran.stdout + ran.stderr)[-1000:])
+
+
 def built(place, wide):
     """The program that is timed, the controller's and the library for C with one of the tables."""
     place.mkdir()
     copied(place, wide)
-    shadow_kit(place)
     for name in ("controller", "speed"):
-        told(f"compiling {name} with the table of {256 if wide else 16}")
-        ran = subprocess.run(["rt", "try", name], cwd=place, env={**os.environ, "RATTLE_HOME": str(place / "kit")}, capture_output=True, text=True)
-        if ran.returncode:
-            sys.exit(f"tables: {name} is not compiled\n" + (ran.stdout + ran.stderr)[-1000:])
-        (place / "object").rename(place / f"{name}.o")
-        (place / "program").rename(place / name)
-    shutil.rmtree(place / "crates/controller")
-    lines = (place / "crates.txt").read_text().splitlines(True)
-    (place / "crates.txt").write_text("".join(line for line in lines if not line.startswith("controller:")))
+        told(f"proving and compiling {name} with the table of {256 if wide else 16}")
+        made("run", place / "crates" / name)
+        shutil.copy(place / "crates" / name / "out" / f"{name}.o", place)
+        shutil.copy(place / "crates" / name / "out" / name, place)
     told(f"proving the library for C with the table of {256 if wide else 16}")
-    ran = subprocess.run(["rt", "staticlib", LIBRARY], cwd=place, capture_output=True, text=True)
-    if ran.returncode:
-        sys.exit("tables: the library for C is not proved\n" + (ran.stdout + ran.stderr)[-1000:])
+    made("lib", place / "crates" / LIBRARY)
 
 
 def listed(file):
@@ -169,7 +155,7 @@ def times(programs, work, mode, words, rounds):
 
 def print_bytes(large, small):
     print(f"{'bytes':50} {'':>8} {'256':>8} {'16':>8} {'saved':>8}")
-    library = f"target/staticlib/lib{LIBRARY}.a"
+    library = f"crates/{LIBRARY}/out/lib{LIBRARY}.a"
     for name, file in (("a program that steps and drains: its object", "controller.o"), ("the same, linked", "controller"), ("the library for C", library)):
         for what, before, after in zip(("code", "constants"), bytes_of(large / file), bytes_of(small / file)):
             print(f"{name:50} {what:>9} {before:>7} {after:>8} {before - after:>8}", flush=True)
@@ -192,9 +178,9 @@ def main():
     missing = [tool for tool in ("rt", "gcc", "valgrind", "size", "objcopy") if not shutil.which(tool)]
     if missing or platform.machine() != "x86_64":
         sys.exit(f"tables: not found: {', '.join(missing)}" if missing else "tables: measured natively on x86-64 only")
-    proved = ROOT / "target/obj/speed.o"
+    proved = ROOT / "crates/speed/out/speed.o"
     if not proved.exists():
-        sys.exit("tables: target/obj/speed.o is not built: run `rt check speed`")
+        sys.exit("tables: crates/speed/out/speed.o is not built: run `tools/build speed`")
     with tempfile.TemporaryDirectory() as folder:
         work = pathlib.Path(folder)
         plain, large, small = work / "plain", work / "large", work / "small"
@@ -203,7 +189,7 @@ def main():
         built(large, True)
         built(small, False)
         if code(small / "speed.o") != code(proved) or sorted(listed(small / "speed.o")) != sorted(listed(proved)):
-            sys.exit("tables: what was compiled here is not the proved program's code: run `rt check speed` again")
+            sys.exit("tables: what was compiled here is not the proved program's code: run `tools/build speed` again")
         print_bytes(large, small)
         print_words(work, (large / "speed", small / "speed", plain))
 
