@@ -11,7 +11,7 @@ held to the kinds and SOUT bits printed.
 
 Each branch and way never taken, and each function never called, stands in never.tsv: function, mark, test, branch, reason. The mark is of the
 function's code, so that a reason is read again when the function changes. Exit status 1 where a branch has neither run nor reason, or a reason no
-longer fits. Needs the kit, gcc and an x86-64 machine; about a minute. Not part of the gate.
+longer fits. Needs the kit, gcc and an x86-64 machine; some four minutes. Not part of the gate.
 """
 import collections
 import concurrent.futures
@@ -239,10 +239,12 @@ def main():
         met, shapes = all_runs(pathlib.Path(folder))
     if not shapes.keys() <= found.keys():
         raise SystemExit(f"coverage: in the programs alone: {sorted(shapes.keys() - found.keys())}")
-    taken = {branch: [met[group][name, block] for group in GROUPS]
-             for name in shapes for block, branch in branches(name, found[name], *shapes[name])}
-    # what no program has is never called: a program is compiled without it
-    taken.update((Branch(CALL, name, "fn", "called", found[name].line), [0] * len(GROUPS)) for name in found.keys() - shapes.keys())
+    taken = {}
+    for name, function in found.items():
+        if name in shapes:
+            taken.update((branch, [met[group][name, block] for group in GROUPS]) for block, branch in branches(name, function, *shapes[name]))
+        else:  # no program calls it, and none is compiled with it
+            taken[Branch(CALL, name, "fn", "called", function.line)] = [0] * len(GROUPS)
     reasons, wrong = judged(found, taken)
     for kind in (CALL, BRANCH, JOIN):
         print(kind, "all", *GROUPS, "any", sep="\t")
