@@ -29,7 +29,7 @@ def modules():
 def functions():
     for file in ROOT.glob("crates/*/src/**/*.rt"):
         crate = file.relative_to(ROOT / "crates").parts[0]
-        for name in re.findall(r"\b(?:fn|enum|struct|const) (\w+)", file.read_text()):
+        for name in re.findall(r"\b(?:fn|enum|struct|trait|const) (\w+)", file.read_text()):
             yield f"{crate}::{name}"
 
 

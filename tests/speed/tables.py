@@ -32,13 +32,12 @@ TICKS = 9000  # more than their bits
 LIBRARY = "icelichen_frames"
 CONTROLLER = """#![tactic(auto)]
 
-use script::Record;
 use state::Bridge;
 use std::io;
 use std::io::{Print, Read};
 
 fn stepped(rt: &impl Print, bridge: Bridge, tx: &mut [u16], rx: &mut [u16], bytes: [u8; 3]) -> io::Result<Bridge> {
-    let Record::Good(event) = script::read(bytes[0], script::value(bytes[1], bytes[2])) else {
+    let Some(event) = script::read(bytes[0], script::value(bytes[1], bytes[2])) else {
         return Ok(bridge);
     };
     let answer = bridge::step(bridge, tx, rx, event);
@@ -66,6 +65,14 @@ fn main(rt: HostRuntime) -> io::Result<()> {
 }
 """
 WIDE = "crc16_wide"
+FROM = """
+// A list of words, from a CRC so far.
+pub fn crc_from(start: u16, words: &[u16]) -> u16
+    ensures { result ≡ crc_from start words.now }
+{
+    Wide::words(start, words)
+}
+"""
 
 
 def told(text):
@@ -81,6 +88,8 @@ def copied(place, wide):
     (place / "crates/controller/src").mkdir(parents=True)
     (place / "crates/controller/src/main.rt").write_text(CONTROLLER)
     if wide:
+        root = place / "crates" / WIDE / "src/lib.rt"
+        root.write_text(root.read_text().replace("specs.Crc.{", "specs.Crc.{crc_from, ", 1) + FROM)
         for name in (*LINKED, "frames"):
             for file in (place / "crates" / name / "src").glob("*.rt") if name != "crc16" else ():
                 file.write_text(file.read_text().replace("crc16::crc_", f"{WIDE}::crc_"))

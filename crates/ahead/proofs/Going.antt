@@ -1,5 +1,6 @@
 -- A command under way, by the number of the next tick: which of its bits is due, and how many of its words TX lacks; and that every event keeps
 -- this (01 The line). Assumes nothing.
+use Rattle.std.specs.Prelude.{Option, None, Some}
 use mathlib.Core.Path.{◌≡◌, refl, ◌∙◌}
 use mathlib.Core.Bool.{Bool, true, false}
 use mathlib.Core.List.{[], ◌∷◌}
@@ -21,8 +22,6 @@ use Rattle.state.specs.declared.Note.TheVariants.{TxEmpty}
 use Rattle.state.specs.declared.Phase.{Phase}
 use Rattle.state.specs.declared.Queue.{Queue}
 use Rattle.state.specs.declared.Sending.{Sending}
-use Rattle.state.specs.declared.Store.{Store}
-use Rattle.state.specs.declared.Store.TheVariants.{Keep, Put}
 use Rattle.next.specs.Next.{may_start, choose, is_starve}
 use Rattle.next.specs.declared.Next.{Next}
 use Rattle.next.specs.declared.Next.TheVariants.{GoOn, LoadWord, Starve, LoadEnd, StartWords, StartEnds, Stay}
@@ -88,10 +87,10 @@ goes_ticked b sin w n due lacks g p f =
     (goes_tick b.sending w n due lacks g p _ (chosen b.sending (may_start b.control)) f)
 
 -- A plan of the host's that clears nothing.
-goes_stored : (s : Sending) (n due lacks : ℕ) → Going s n due lacks → (st : Store) → Going (stored s st) n due (lacks - puts st)
+goes_stored : (s : Sending) (n due lacks : ℕ) → Going s n due lacks → (st : Option ℕ) → Going (stored s st) n due (lacks - puts st)
 unfolding stored ring_after puts
-goes_stored s n due lacks g Keep = record { time = g.time; bits = g.bits; short = omega (arith, g.short) }
-goes_stored s n due lacks g (Put w) = record { time = g.time; bits = g.bits; short = omega (arith, g.short) }
+goes_stored s n due lacks g None = record { time = g.time; bits = g.bits; short = omega (arith, g.short) }
+goes_stored s n due lacks g (Some w) = record { time = g.time; bits = g.bits; short = omega (arith, g.short) }
 
 -- what is taken back is none of the words that the command has still to take
 abbrev Spares : Sending → Deed → Type 0

@@ -1,5 +1,6 @@
 -- A queued command that waits for its start bit, no word before it left to take: it stays the oldest with words that waits, and TX keeps the
 -- level's words, or all of its own (01 Frames, The line). Assumes nothing.
+use Rattle.std.specs.Prelude.{Option, None, Some}
 use mathlib.Core.Path.{◌≡◌, refl, ap, subst, sym, ◌∙◌}
 use mathlib.Core.Bool.{Bool, true, false}
 use mathlib.Core.List.{List, [], ◌∷◌, ◌++◌, append_assoc}
@@ -21,8 +22,6 @@ use Rattle.state.specs.declared.Phase.{Phase}
 use Rattle.state.specs.declared.Place.{Place}
 use Rattle.state.specs.declared.Queue.{Queue}
 use Rattle.state.specs.declared.Sending.{Sending}
-use Rattle.state.specs.declared.Store.{Store}
-use Rattle.state.specs.declared.Store.TheVariants.{Keep, Put}
 use Rattle.next.specs.Next.{may_start, choose, is_start}
 use Rattle.next.specs.declared.Next.{Next}
 use Rattle.next.specs.declared.Next.TheVariants.{GoOn, LoadWord, Starve, LoadEnd, StartWords, StartEnds, Stay}
@@ -119,10 +118,10 @@ module _ (p : Place) (least : ℕ) where
         (kept_trans _ _ _ k (tick_reader_keeps b.receiving (finished s).queue _ sin r.rx k.fit k.eight).queue)
 
   -- A plan of the host's that clears nothing.
-  poised_stored : (s : Sending) → Poised s p least → (st : Store) → Poised (stored s st) p least
+  poised_stored : (s : Sending) → Poised s p least → (st : Option ℕ) → Poised (stored s st) p least
   unfolding stored ring_after
-  poised_stored s g Keep = g
-  poised_stored s g (Put w) = record {
+  poised_stored s g None = g
+  poised_stored s g (Some w) = record {
     none_left = g.none_left;
     foremost = g.foremost;
     ahead = λ h. let k : least ≤ s.tx.count = g.ahead (omega (arith, h)) in omega (arith, k);
@@ -168,7 +167,7 @@ module _ (p : Place) (least : ℕ) where
       i.sending.eight c v (concluded_to_come l _ _ _ x.phase) r.sending
 
 -- The event that queues it, where no word of an earlier command is left to take: by the sum of the record rules what TX lacks of it is to come.
-module _ (s : Sending) (st : Store) (p : Place) (ph : Phase) (least coming mine : ℕ) (i : s.sender.left ≡ 0)
+module _ (s : Sending) (st : Option ℕ) (p : Place) (ph : Phase) (least coming mine : ℕ) (i : s.sender.left ≡ 0)
     (a : words_of (waiting s.queue) ≡ 0) (f : QueueFit s.queue) (l : length s.queue.places ≡ 8) (z : coming ≤ to_come ph) where
   abbrev Poises : Deed → Type 0
   Poises d = Orderly least (ring_after s.tx st).count d ph → SendRules (done (stored s st) d) coming mine → Poised (done (stored s st) d) p least

@@ -1,13 +1,11 @@
 -- How many words must be ahead (02 item 2: "A host too slow for it will see note 13, so the host guide says how many words must be ahead").
 -- A command of n words has its start bit out, TX holds a words, and the host goes on giving words. Assumes nothing.
-use Rattle.std.specs.Prelude.{◌≡◌, Bool, false, List, [], ◌∷◌, ◌++◌, ◌≢◌, ℕ, ◌+◌, ◌-◌, ◌*◌, ◌/◌, ◌≤◌, ◌<◌}
+use Rattle.std.specs.Prelude.{◌≡◌, Bool, false, List, [], ◌∷◌, ◌++◌, ◌≢◌, ℕ, ◌+◌, ◌-◌, ◌*◌, ◌/◌, ◌≤◌, ◌<◌, Option, None, Some}
 use Rattle.command.specs.Layouts.{Layouts}
 use Rattle.line.specs.Format.{group_length}
 use Rattle.line.specs.declared.Piece.TheVariants.{StartBit}
 use Rattle.state.specs.declared.Note.{Note}
 use Rattle.state.specs.declared.Note.TheVariants.{TxEmpty}
-use Rattle.state.specs.declared.Store.{Store}
-use Rattle.state.specs.declared.Store.TheVariants.{Keep, Put}
 use Rattle.next.specs.Next.{may_start, choose}
 use Rattle.next.specs.declared.Next.TheVariants.{LoadWord}
 use Rattle.events.specs.declared.Event.{Event}
@@ -37,9 +35,9 @@ pub record Begun (c : Config) (n a : ℕ) : Type 0 where
 unfoldable pub tick_after : List Event → ℕ
 tick_after es = ticks_in es + 1
 
-unfoldable pub puts : Store → ℕ
-puts Keep = 0
-puts (Put w) = 1
+unfoldable pub puts : Option ℕ → ℕ
+puts None = 0
+puts (Some w) = 1
 
 unfoldable pub stored_in : Layouts → Config → List Event → ℕ
 stored_in l c [] = 0

@@ -9,7 +9,11 @@ use Rattle.state.specs.declared.Reply.TheVariants.{Status, Registers, Check}
 use Rattle.state.specs.declared.Phase.{Phase}
 use Rattle.state.specs.declared.Phase.TheVariants.{Answering}
 use Rattle.state.specs.declared.Bridge.{Bridge}
+use Rattle.state.specs.declared.Note.{Note}
 use Rattle.state.specs.declared.Note.TheVariants.{Done}
+use Rattle.registers.specs.declared.Control.{Control}
+use Rattle.plan.specs.Plan.{plain}
+use Rattle.plan.specs.declared.Receive.{Receive}
 use Rattle.answers.specs.Answers.{answer_with, register_answered, answered}
 use Rattle.plan.specs.declared.Plan.{Plan}
 use Rattle.plan.specs.declared.Receive.TheVariants.{LeaveRx}
@@ -18,6 +22,41 @@ use lib.Dec.{ltb, leb}
 use Rattle.base.specs.Pick.{and_r}
 use Rattle.state.specs.Frame.{reply_sound}
 use borrow.Author.Tests.{leb-true}
+
+-- a word of the answer, over the plan that only moves the phase
+pub to_answer_with : (b : Bridge) (c : Control) (r : Receive) (n : Note) (phase : Phase) (w : ℕ) (p : Plan) → p ≡ plain b phase n
+    → ◌≡◌ {A = Plan}
+    (record {
+      phase = p.phase;
+      held = p.held;
+      control = c;
+      store = p.store;
+      deed = p.deed;
+      receive = r;
+      note = p.note;
+      sdo = w;
+      status = p.status;
+    })
+    (answer_with b c r n phase w)
+unfolding answer_with
+to_answer_with b c r n phase w p h = rw h
+
+pub to_unchanged : (b : Bridge) (phase : Phase) (w : ℕ) (p : Plan) → p ≡ plain b phase Done
+    → ◌≡◌ {A = Plan}
+    (record {
+      phase = p.phase;
+      held = p.held;
+      control = p.control;
+      store = p.store;
+      deed = p.deed;
+      receive = p.receive;
+      note = p.note;
+      sdo = w;
+      status = p.status;
+    })
+    (answer_with b b.control LeaveRx Done phase w)
+unfolding answer_with
+to_unchanged b phase w p h = rw h
 
 -- an arm of an answer
 pub to_answer : (b : Bridge) (reply k : Reply) (sum w : ℕ) (x : Plan) → reply ≡ k → x ≡ answered layouts b k sum w → x ≡ answered layouts b reply sum w

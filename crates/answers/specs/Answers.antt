@@ -1,5 +1,5 @@
 -- The answer (01 Frames, "Reads answer the words, each read as it is answered, then their CRC"; note 15). Assumes nothing.
-use Rattle.std.specs.Prelude.{false, ℕ, ◌+◌, ◌-◌, leb, eqb}
+use Rattle.std.specs.Prelude.{false, ℕ, ◌+◌, ◌-◌, leb, eqb, None}
 use Rattle.base.specs.Pick.{pick}
 use Rattle.command.specs.Layouts.{Layouts}
 use Rattle.registers.specs.Registers.{read_of}
@@ -14,7 +14,6 @@ use Rattle.state.specs.declared.Phase.{Phase}
 use Rattle.state.specs.declared.Phase.TheVariants.{Idle, Answering}
 use Rattle.state.specs.declared.Reply.{Reply}
 use Rattle.state.specs.declared.Reply.TheVariants.{Status, Data, Registers, Check}
-use Rattle.state.specs.declared.Store.TheVariants.{Keep}
 use Rattle.plan.specs.Plan.{no_answer}
 use Rattle.plan.specs.declared.Plan.{Plan}
 use Rattle.plan.specs.declared.Receive.{Receive}
@@ -27,7 +26,7 @@ answer_with b c r n p w = record {
   phase = p;
   held = b.frame.held;
   control = c;
-  store = Keep;
+  store = None;
   deed = Leave;
   receive = r;
   note = n;

@@ -8,9 +8,9 @@ ghost use Rattle.command.specs.Layouts.{layouts};
 ghost use Rattle.state.specs.Frame.{reply_sound};
 ghost use Rattle.answers.specs.Answers.{answer_with, data_answered, register_answered, answered as answered_of};
 
-use plan::{NO_ANSWER, Plan, Receive, raised_in};
+use plan::{NO_ANSWER, Plan, Receive, plain, raised_in};
 use registers::{Control, Flag};
-use state::{Bridge, Deed, Note, Phase, Reply, Store};
+use state::{Bridge, Note, Phase, Reply};
 
 fn answer_with(
     bridge: Bridge,
@@ -22,17 +22,11 @@ fn answer_with(
 ) -> Plan
     ensures { result ≡ answer_with bridge control receive note phase word }
 {
-    let held = bridge.frame.held;
     Plan {
-        phase: phase,
-        held: held,
-        control: control,
-        store: Store::Keep,
-        deed: Deed::Leave,
-        receive: receive,
-        note: note,
+        control,
+        receive,
         sdo: word,
-        status: false,
+        ..plain(bridge, phase, note)
     }
 }
 
@@ -63,8 +57,18 @@ fn answering(reply: Reply, sum: u16, word: u16) -> Phase
     ensures { result ≡ Phase.Answering reply (layouts.crc_step sum word) }
 {
     Phase::Answering {
-        reply: reply,
+        reply,
         crc: crc16::crc_word(sum, word),
+    }
+}
+
+// A word of the answer that changes nothing but the phase.
+fn unchanged(bridge: Bridge, phase: Phase, word: u16) -> Plan
+    ensures { result ≡ answer_with bridge bridge.control Receive.LeaveRx Note.Done phase word }
+{
+    Plan {
+        sdo: word,
+        ..plain(bridge, phase, Note::Done)
     }
 }
 
@@ -73,9 +77,8 @@ fn data_answered(bridge: Bridge, left: u16, sum: u16, word: u16) -> Plan
     ensures { result ≡ data_answered layouts bridge left sum word }
 {
     let next = next_data(left);
-    let control = bridge.control;
     if bridge.receiving.rx.count == 0 {
-        let flagged = raised_in(control, Flag::RxUvf);
+        let flagged = raised_in(bridge.control, Flag::RxUvf);
         let phase = answering(next, sum, NO_ANSWER);
         return answer_with(
             bridge,
@@ -87,16 +90,22 @@ fn data_answered(bridge: Bridge, left: u16, sum: u16, word: u16) -> Plan
         );
     }
     let phase = answering(next, sum, word);
-    answer_with(bridge, control, Receive::PopRx, Note::Done, phase, word)
+    answer_with(
+        bridge,
+        bridge.control,
+        Receive::PopRx,
+        Note::Done,
+        phase,
+        word,
+    )
 }
 
 fn register_answered(bridge: Bridge, address: u16, left: u16, sum: u16, word: u16) -> Plan
     requires { address < 65535 }
     ensures { result ≡ register_answered layouts bridge address left sum word }
 {
-    let control = bridge.control;
     let phase = answering(next_registers(address, left), sum, word);
-    answer_with(bridge, control, Receive::LeaveRx, Note::Done, phase, word)
+    unchanged(bridge, phase, word)
 }
 
 // One word of an answer; `word` is RX's oldest.
@@ -104,26 +113,15 @@ pub fn answered(bridge: Bridge, reply: Reply, sum: u16, word: u16) -> Plan
     requires { reply_sound reply ≡ true }
     ensures { result ≡ answered_of layouts bridge reply sum word }
 {
-    let control = bridge.control;
     match reply {
-        Reply::Status(status) => {
-            let phase = answering(Reply::Check, sum, status);
-            answer_with(bridge, control, Receive::LeaveRx, Note::Done, phase, status)
-        }
+        Reply::Status(status) => unchanged(bridge, answering(Reply::Check, sum, status), status),
         Reply::Data(left) => data_answered(bridge, left, sum, word),
         Reply::Registers { address, left } => {
             let tx = bridge.sending.tx.count;
             let rx = bridge.receiving.rx.count;
-            let read = reading::read(control, tx, rx, address);
+            let read = reading::read(bridge.control, tx, rx, address);
             register_answered(bridge, address, left, sum, read)
         }
-        Reply::Check => answer_with(
-            bridge,
-            control,
-            Receive::LeaveRx,
-            Note::Done,
-            Phase::Idle,
-            sum,
-        ),
+        Reply::Check => unchanged(bridge, Phase::Idle, sum),
     }
 }

@@ -1,18 +1,18 @@
 -- Laws of the definitions, in the form in which the functions' proofs ask them. Assumes nothing.
+use Rattle.std.specs.Prelude.{Result, Ok}
 use mathlib.Core.Path.{◌≡◌, refl, ap, ap₂, sym, ◌∙◌, subst}
 use mathlib.Core.Bool.{Bool, true, false}
-use mathlib.Core.List.{List, [], ◌∷◌}
-use Prim.Native.Nat.{ℕ, ◌+◌, ◌^◌, ◌<◌, ◌≤◌}
+use mathlib.Core.List.{List, [], ◌∷◌, ◌++◌}
+use Prim.Native.Nat.{ℕ, suc, ◌+◌, ◌<◌, ◌≤◌}
 use native.Mathlib.Omega.{arith}
 use native.Mathlib.Numerals.{add-one}
-use lib.ListN.{length, get_or, take, drop, set, replicate, drop_of_length-le, length-set, length-append}
-use lib.Seq.{drop-cons, length-take-le, take-append_seam}
+use lib.ListN.{length, get_or, take, drop, set, replicate, drop_of_length-le, length-append}
+use lib.Seq.{drop-cons, take-append_seam, sets, sets-eq}
 use borrow.Author.Tests.{le-leb}
 use Rattle.base.specs.Pick.{pick_true, pick_false}
 use Rattle.layout.specs.declared.Layout.{Layout}
 use Rattle.crc16.specs.Crc.{crc_from}
-use Rattle.command.specs.Layouts.{start_by, layouts}
-use Rattle.registers.specs.Spictrl.{is_xmodem_in}
+use Rattle.command.specs.Layouts.{layouts}
 use Rattle.registers.specs.declared.Regs.{Regs}
 use Rattle.state.specs.declared.Bridge.{Bridge}
 use Rattle.events.specs.Turn.{out}
@@ -24,11 +24,8 @@ use Rattle.bridge.specs.Runs.{Config, out_of, left_by, next, end_of}
 use Rattle.frames.specs.Frames.{Out as FrameOut, beside, frame_of, over, out as wrote, written_of}
 use Rattle.frames.specs.Orders.{within, command_word}
 use Rattle.frames.specs.declared.Order.TheVariants.{FwdWrCrc}
-use Rattle.frames.specs.declared.Written.{Written}
-use Rattle.frames.specs.declared.Written.TheVariants.{Frame}
-use Rattle.verdict.specs.Verdicts.{is_taken, verdict_by}
-use Rattle.verdict.specs.declared.Verdict.{Verdict}
-use Rattle.verdict.specs.declared.Verdict.TheVariants.{Taken}
+use Rattle.frames.specs.declared.WriteError.{WriteError}
+use Rattle.verdict.specs.Verdicts.{is_taken, verdict_by, Verdict, Taken}
 use Rattle.verdict.proofs.Taking.{Finds, taken_facts}
 use Rattle.callup.specs.CallUp.{vsync, given, call_up, call_up_to}
 use Rattle.frames_found.specs.Found.{frame_in}
@@ -51,76 +48,37 @@ unfolding next out_of
 stepped b tx rx e a t r h = ap left_by h
 
 -- what is left of a frame ends where the whole does
-pub record Giving (c : Config) (frame : List ℕ) (b : Bridge) (tx rx : List ℕ) (i : ℕ) : Type 0 where
-  pub whole : end_of layouts (config b tx rx) (given (drop i frame)) ≡ end_of layouts c (given frame)
-  pub few : i ≤ length frame
-  pub fits : length frame < 2 ^ 64
-  pub tx_is : length tx ≡ length c.tx
-  pub rx_is : length rx ≡ length c.rx
-
-pub give_begins : (b : Bridge) (tx rx frame : List ℕ) → length frame < 2 ^ 64 → Giving (config b tx rx) frame b tx rx 0
-give_begins b tx rx frame h = record { whole = refl; few = omega arith; fits = h; tx_is = refl; rx_is = refl }
-
-module _ (c : Config) (frame : List ℕ) (b : Bridge) (tx rx : List ℕ) (i : ℕ) (v : Giving c frame b tx rx i) (a : Answer) (t r : List ℕ) where
-  pub give_again : i < length frame → out a t r ≡ step layouts b tx rx (Word (get_or frame i 0)) → length t ≡ length tx → length r ≡ length rx
-      → Giving c frame a.state t r (i + 1)
+module _ (c : Config) (frame : List ℕ) (b : Bridge) (tx rx : List ℕ) (i : ℕ)
+    (v : end_of layouts (config b tx rx) (given (drop i frame)) ≡ end_of layouts c (given frame)) (a : Answer) (t r : List ℕ) where
+  pub give_again : i < length frame → out a t r ≡ step layouts b tx rx (Word (get_or frame i 0))
+      → end_of layouts (config a.state t r) (given (drop (i + 1) frame)) ≡ end_of layouts c (given frame)
   unfolding given end_of
-  give_again h e p q =
-      record {
-        whole =
-            subst (λ (d : Config). end_of layouts d (given (drop (i + 1) frame)) ≡ end_of layouts c (given frame))
-            (sym (stepped b tx rx (Word (get_or frame i 0)) a t r e)) (rw add-one (rw (drop-cons frame i 0 h) at v.whole));
-        few = omega arith;
-        fits = v.fits;
-        tx_is = p ∙ v.tx_is;
-        rx_is = q ∙ v.rx_is;
-      }
+  give_again h e =
+      subst (λ (d : Config). end_of layouts d (given (drop (i + 1) frame)) ≡ end_of layouts c (given frame))
+      (sym (stepped b tx rx (Word (get_or frame i 0)) a t r e)) (rw add-one (rw (drop-cons frame i 0 h) at v))
 
   pub give_ends : length frame ≤ i → out a t r ≡ step layouts b tx rx Release → config a.state t r ≡ end_of layouts c (given frame)
   unfolding given end_of
-  give_ends h e = stepped b tx rx Release a t r e ∙ (rw (drop_of_length-le frame h) at v.whole)
+  give_ends h e = stepped b tx rx Release a t r e ∙ (rw (drop_of_length-le frame h) at v)
 
--- what is left to pour makes the whole
-pub record Pouring (ws cells : List ℕ) (i : ℕ) : Type 0 where
-  pub whole : poured cells i (drop i ws) ≡ poured (replicate 30 0) 0 ws
-  pub few : i ≤ length ws
-  pub most : length ws ≤ 30
-  pub thirty : length cells ≡ 30
+-- words poured are the first of the cells
+pub poured_sets : (cells : List ℕ) (i : ℕ) (ws : List ℕ) → poured cells i ws ≡ sets cells i ws
+unfolding poured
+poured_sets cells i [] = refl
+poured_sets cells i (w ∷ ws) = ap (λ (n : ℕ). poured (set cells i w) n ws) (add-one i) ∙ poured_sets (set cells i w) (suc i) ws
 
-pub pour_begins : (ws : List ℕ) → length ws ≤ 30 → Pouring ws (replicate 30 0) 0
-pour_begins ws h = record { whole = refl; few = omega arith; most = h; thirty = refl }
-
-module _ (ws cells : List ℕ) (i : ℕ) (v : Pouring ws cells i) where
-  pub pour_again : i < length ws → Pouring ws (set cells i (get_or ws i 0)) (i + 1)
-  unfolding poured
-  pour_again h =
-      record {
-        whole =
-            subst (λ (n : ℕ). poured (set cells i (get_or ws i 0)) (i + 1) (drop n ws) ≡ poured (replicate 30 0) 0 ws) (sym (add-one i))
-            (rw (drop-cons ws i 0 h) at v.whole);
-        few = omega arith;
-        most = v.most;
-        thirty = length-set cells i (get_or ws i 0) ∙ v.thirty;
-      }
-
-  pub to_slot : length ws ≤ i → (reading n : ℕ) → n ≡ length ws → record { reading = reading; count = n; words = cells } ≡ slot_of reading ws
-  unfolding slot_of poured
-  to_slot h reading n e =
-      ap₂ (λ (m : ℕ) (xs : List ℕ). record { reading = reading; count = m; words = xs }) e (rw (drop_of_length-le ws h) at v.whole)
-
--- a frame of so many words has room in the buffer, which keeps its length
-pub part_length : (ws left : List ℕ) (n : ℕ) → length left ≡ 32 → length ws ≤ 30 → n ≡ length ws + 2 → n ≡ length (take n left)
-part_length ws left n l h e = sym (length-take-le n left (omega arith))
-
--- the writer, by what the functions answered for the registers
-pub told_written : (k : Layout) (spictrl : ℕ) (xmodem : Bool) (s : ℕ) (ws buffer left : List ℕ) (answer : Written) → xmodem ≡ is_xmodem_in k spictrl
-    → s ≡ start_by xmodem → wrote answer left ≡ written_of k s FwdWrCrc ws buffer
-    → wrote answer left ≡ written_of k (start_by (is_xmodem_in k spictrl)) FwdWrCrc ws buffer
-told_written k spictrl xmodem s ws buffer left answer x y e = e ∙ ap (λ (m : ℕ). written_of k m FwdWrCrc ws buffer) (y ∙ ap start_by x)
+pub to_slot : (reading : ℕ) (ws xs : List ℕ) → length ws ≤ 30 → xs ≡ ws
+    → record { reading = reading; count = length ws; words = xs ++ drop (length ws) (replicate 30 0) } ≡ slot_of reading ws
+unfolding slot_of
+to_slot reading ws xs h e =
+    let s : poured (replicate 30 0) 0 ws ≡ ws ++ drop (0 + length ws) (replicate 30 0) =
+    poured_sets (replicate 30 0) 0 ws ∙ sets-eq ws (replicate 30 0) 0 (omega arith) in
+    let z : 0 + length ws ≡ length ws = omega arith in
+    rw e (ap (λ (cells : List ℕ). record { reading = reading; count = length ws; words = cells }) (sym (rw z at s)))
 
 -- it takes 1 to 30 words
 written : (k : Layout) (s : ℕ) (ws : List ℕ) → 1 ≤ length ws → length ws ≤ 30
-    → wrote (Frame (length ws + beside)) (over (frame_of k s FwdWrCrc ws) (replicate 32 0)) ≡ written_of k s FwdWrCrc ws (replicate 32 0)
+    → wrote (Ok (length ws + beside)) (over (frame_of k s FwdWrCrc ws) (replicate 32 0)) ≡ written_of k s FwdWrCrc ws (replicate 32 0)
 unfolding written_of
 written k s ws a b =
     let w : within FwdWrCrc (length ws) ≡ true = rw (le-leb 1 (length ws) a, le-leb (length ws) 512 (omega arith)) refl in
@@ -128,7 +86,7 @@ written k s ws a b =
     pick_true _ _ _ _ w (pick_true _ _ _ _ (le-leb _ _ l) refl)
 
 -- .. and leaves their frame at the buffer's front
-frame_front : (k : Layout) (s : ℕ) (ws left : List ℕ) (answer : Written) → 1 ≤ length ws → length ws ≤ 30
+frame_front : (k : Layout) (s : ℕ) (ws left : List ℕ) (answer : Result ℕ WriteError) → 1 ≤ length ws → length ws ≤ 30
     → wrote answer left ≡ written_of k s FwdWrCrc ws (replicate 32 0) → take (length ws + 2) left ≡ frame_of k s FwdWrCrc ws
 frame_front k s ws left answer a b e =
     let frame : List ℕ = frame_of k s FwdWrCrc ws in
@@ -137,7 +95,7 @@ frame_front k s ws left answer a b e =
     let n : length ws + 2 ≡ length frame = omega (arith, length-append head (crc_from s head ∷ [])) in
     ap₂ (λ (m : ℕ) (x : List ℕ). take m x) n is ∙ take-append_seam frame _
 
-pub to_forward : (b : Bridge) (tx rx : List ℕ) (k : Layout) (s : ℕ) (ws left : List ℕ) (answer : Written) (n : ℕ) (g : Bridge) (t r : List ℕ)
+pub to_forward : (b : Bridge) (tx rx : List ℕ) (k : Layout) (s : ℕ) (ws left : List ℕ) (answer : Result ℕ WriteError) (n : ℕ) (g : Bridge) (t r : List ℕ)
     → 1 ≤ length ws → length ws ≤ 30 → wrote answer left ≡ written_of k s FwdWrCrc ws (replicate 32 0) → n ≡ length ws + 2
     → config g t r ≡ end_of layouts (config b tx rx) (given (take n left)) → config g t r ≡ end_of layouts (config b tx rx) (given (frame_of k s FwdWrCrc ws))
 to_forward b tx rx k s ws left answer n g t r p q e i h =
@@ -188,8 +146,6 @@ module _ (board : Board) (b : Bridge) (tx rx : List ℕ) (slot reading : ℕ) (w
   unfolding call_up_of
   to_called e f = pick_true _ _ _ _ (told_taken _ _ b slot _ v t h k ∙ e) f
 
-  pub to_refused : t ≡ false → r ≡ refusal board b v → called r tx rx ≡ call_up_of board (config b tx rx) slot reading ws
+  pub to_refused : t ≡ false → called (refusal board b v) tx rx ≡ call_up_of board (config b tx rx) slot reading ws
   unfolding call_up_of
-  to_refused e f =
-      pick_false _ _ _ _ (told_taken _ _ b slot _ v t h k ∙ e)
-      (ap (λ (z : Called). called z tx rx) (f ∙ ap (λ (u : Verdict). refusal board b u) h))
+  to_refused e = pick_false _ _ _ _ (told_taken _ _ b slot _ v t h k ∙ e) (ap (λ (u : Verdict). called (refusal board b u) tx rx) h)

@@ -1,13 +1,12 @@
 -- A call-up is taken just where 02 says, and a slot shows its last (02 item 13). Assumes nothing.
 use mathlib.Core.Path.{◌≡◌, refl, ap, ◌∙◌}
 use mathlib.Core.Bool.{Bool, true, not, ◌&&◌}
-use mathlib.Core.List.{List, [], ◌∷◌}
-use Prim.Native.Nat.{ℕ, suc, ◌+◌, ◌≤◌}
+use mathlib.Core.List.{List}
+use Prim.Native.Nat.{ℕ, ◌+◌, ◌≤◌}
 use native.Mathlib.Omega.{arith}
-use native.Mathlib.Numerals.{add-one}
 use lib.Dec.{leb}
-use lib.ListN.{length, get_or, set, replicate, take}
-use lib.Seq.{sets, sets-eq, take-append_seam, get_or-set_same, get_or-set_other}
+use lib.ListN.{length, get_or, replicate, take}
+use lib.Seq.{sets-eq, take-append_seam, get_or-set_same, get_or-set_other}
 use borrow.Author.Tests.{le-leb, leb-true, not-true}
 use Rattle.base.specs.Pick.{and_l, and_r, and_both}
 use Rattle.line.specs.Format.{Words}
@@ -22,11 +21,11 @@ use Rattle.next.specs.Next.{may_start}
 use Rattle.kept.proofs.Sound.{facts_sound}
 use Rattle.bridge.specs.Runs.{Config}
 use Rattle.bridge.proofs.Reached.{Obeys}
-use Rattle.verdict.specs.Verdicts.{call_up_most, slot_count, last_slot, is_taken, is_idle, is_ready, has_room}
-use Rattle.verdict.specs.declared.Verdict.TheVariants.{Taken}
+use Rattle.verdict.specs.Verdicts.{call_up_most, slot_count, last_slot, is_taken, is_idle, is_ready, has_room, Taken}
 use Rattle.verdict.proofs.Taking.{Finds, taken_facts, facts_taken}
 use Rattle.callup.specs.Taken.{Open, Takes}
-use Rattle.board.specs.Board.{poured, slot_of, empty_slot, showing, verdict_of}
+use Rattle.board.proofs.Laws.{poured_sets}
+use Rattle.board.specs.Board.{slot_of, empty_slot, showing, verdict_of}
 use Rattle.board.specs.declared.Board.{Board}
 
 -- refusal 34 as a test and as facts
@@ -93,11 +92,6 @@ takes_taken c slot ws o h t =
     })
 
 -- "a slot shows its last": the words of a call-up are the first of its slot's cells
-poured_sets : (cells : List ℕ) (i : ℕ) (ws : List ℕ) → poured cells i ws ≡ sets cells i ws
-unfolding poured
-poured_sets cells i [] = refl
-poured_sets cells i (w ∷ ws) = ap (λ (n : ℕ). poured (set cells i w) n ws) (add-one i) ∙ poured_sets (set cells i w) (suc i) ws
-
 pub slot_words : (reading : ℕ) (ws : List ℕ) → length ws ≤ call_up_most → take (slot_of reading ws).count (slot_of reading ws).words ≡ ws
 unfolding slot_of
 slot_words reading ws h =

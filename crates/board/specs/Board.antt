@@ -5,9 +5,7 @@ use Rattle.base.specs.Pick.{pick}
 use Rattle.command.specs.Layouts.{layouts}
 use Rattle.state.specs.declared.Bridge.{Bridge}
 use Rattle.bridge.specs.Runs.{Config, end_of}
-use Rattle.verdict.specs.Verdicts.{call_up_most, slot_count, is_taken, verdict_by}
-use Rattle.verdict.specs.declared.Verdict.{Verdict}
-use Rattle.verdict.specs.declared.Verdict.TheVariants.{Taken}
+use Rattle.verdict.specs.Verdicts.{call_up_most, slot_count, is_taken, verdict_by, Verdict, Taken}
 use Rattle.callup.specs.CallUp.{call_up_to}
 use Rattle.board.specs.declared.Board.{Board}
 use Rattle.board.specs.declared.Slot.{Slot}

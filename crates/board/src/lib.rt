@@ -10,24 +10,25 @@ ghost use Rattle.frames.specs.declared.Order.TheVariants.{FwdWrCrc};
 ghost use Rattle.bridge.specs.Runs.{end_of};
 ghost use Rattle.callup.specs.CallUp.{given, call_up_to};
 ghost use Rattle.frames_found.specs.Found.{frame_in};
-ghost use Rattle.board.specs.Board.{called, refusal, slot_of, empty_slot, empty_board, taken_of, call_up_of};
+ghost use Rattle.board.specs.Board.{called, slot_of, empty_slot, empty_board, taken_of, call_up_of};
 ghost use Rattle.board.specs.Moments.{config};
 
 use events::Event;
-use frames::{Order, Written};
+use frames::{Order, WriteError};
 use registers::Regs;
 use state::Bridge;
-use verdict::Verdict;
+use verdict::Refusal;
 
 // What a slot shows: reading and words of its last call-up.
-#[derive(Clone, Copy)]
+// Stays: words with their count beside them (a): a board is a plain value of fixed size, with no heap (`Board.slot_of`).
+#[derive(Clone, Copy, PartialEq, Eq)]
 pub struct Slot {
     pub reading: u16,
     pub count: u16,
     pub words: [u16; 30],
 }
 
-#[derive(Clone, Copy)]
+#[derive(Clone, Copy, PartialEq, Eq)]
 pub struct Board {
     pub slots: [Slot; 40],
 }
@@ -37,19 +38,20 @@ pub struct Board {
 pub struct Called {
     pub board: Board,
     pub bridge: Bridge,
-    pub verdict: Verdict,
+    pub verdict: Result<(), Refusal>,
 }
 
 // Before the first call-up.
 pub fn empty() -> Board
     ensures { result ≡ empty_board }
 {
-    let slot = Slot {
-        reading: 0,
-        count: 0,
-        words: [0; 30],
-    };
-    Board { slots: [slot; 40] }
+    Board {
+        slots: [Slot {
+            reading: 0,
+            count: 0,
+            words: [0; 30],
+        }; 40],
+    }
 }
 
 // A frame's words, and chip select released.
@@ -57,23 +59,18 @@ pub fn give(bridge: Bridge, tx: &mut [u16], rx: &mut [u16], frame: &[u16]) -> Br
     ensures { config result tx.new rx.new ≡ end_of layouts (config bridge tx.old rx.old) (given frame.now) }
 {
     let mut b = bridge;
-    let mut i: usize = 0;
-    while i < frame.len() {
-        let answer = bridge::step(b, tx, rx, Event::Word(frame[i]));
-        b = answer.state;
-        i = i + 1;
+    for word in frame {
+        b = bridge::step(b, tx, rx, Event::Word(*word)).state;
     }
-    let last = bridge::step(b, tx, rx, Event::Release);
-    last.state
+    bridge::step(b, tx, rx, Event::Release).state
 }
 
 // The frame of FWD_WR_CRC with these words, written for such registers.
-fn write(regs: Regs, words: &[u16], buffer: &mut [u16]) -> Written
+fn write(regs: Regs, words: &[u16], buffer: &mut [u16]) -> Result<u16, WriteError>
     ensures { wrote result buffer.new ≡ written_of regs.layout (start_by (is_xmodem regs)) FwdWrCrc words.now buffer.old }
 {
-    let layout = regs.layout;
     let start = command::crc_start(registers::is_xmodem(regs));
-    frames::write(layout, start, Order::FwdWrCrc, words, buffer)
+    frames::write(regs.layout, start, Order::FwdWrCrc, words, buffer)
 }
 
 // Such a frame given.
@@ -83,7 +80,7 @@ fn forward(bridge: Bridge, tx: &mut [u16], rx: &mut [u16], regs: Regs, words: &[
     ensures { config result tx.new rx.new ≡ end_of layouts (config bridge tx.old rx.old) (given (frame_in regs FwdWrCrc words.now)) }
 {
     let mut buffer: [u16; 32] = [0; 32];
-    write(regs, words, &mut buffer);
+    let _ = write(regs, words, &mut buffer);
     let n = words.len() + 2;
     give(bridge, tx, rx, &buffer[..n])
 }
@@ -96,8 +93,7 @@ fn forward_both(bridge: Bridge, tx: &mut [u16], rx: &mut [u16], words: &[u16]) -
 {
     let regs = bridge.control.regs;
     let after = forward(bridge, tx, rx, regs, words);
-    let vsync: [u16; 1] = [0xAAF0];
-    forward(after, tx, rx, regs, &vsync)
+    forward(after, tx, rx, regs, &[0xAAF0])
 }
 
 fn slot_of(reading: u16, words: &[u16]) -> Slot
@@ -105,26 +101,11 @@ fn slot_of(reading: u16, words: &[u16]) -> Slot
     ensures { result ≡ slot_of reading words.now }
 {
     let mut kept: [u16; 30] = [0; 30];
-    let mut i: usize = 0;
-    while i < words.len() {
-        kept[i] = words[i];
-        i = i + 1;
-    }
-    let n = words.len() as u16;
+    kept[..words.len()].copy_from_slice(words);
     Slot {
-        reading: reading,
-        count: n,
+        reading,
+        count: words.len() as u16,
         words: kept,
-    }
-}
-
-fn refused(board: Board, bridge: Bridge, verdict: Verdict) -> Called
-    ensures { result ≡ refusal board bridge verdict }
-{
-    Called {
-        board: board,
-        bridge: bridge,
-        verdict: verdict,
     }
 }
 
@@ -142,15 +123,13 @@ fn taken(
     requires words_len_bound { length words.now ≤ 30 }
     ensures { called result tx.new rx.new ≡ taken_of board (config bridge tx.old rx.old) slot reading words.now }
 {
-    let after = forward_both(bridge, tx, rx, words);
-    let shows = slot_of(reading, words);
-    let mut slots = board.slots;
-    slots[slot as usize] = shows;
-    let showing = Board { slots: slots };
+    let bridge = forward_both(bridge, tx, rx, words);
+    let mut board = board;
+    board.slots[slot as usize] = slot_of(reading, words);
     Called {
-        board: showing,
-        bridge: after,
-        verdict: Verdict::Taken,
+        board,
+        bridge,
+        verdict: Ok(()),
     }
 }
 
@@ -166,9 +145,13 @@ pub fn call_up(
 ) -> Called
     ensures { called result tx.new rx.new ≡ call_up_of board (config bridge tx.old rx.old) slot reading words.now }
 {
-    let judged = verdict::judge(bridge, tx.len(), rx.len(), slot, words.len());
-    if verdict::is_taken(judged) {
+    let verdict = verdict::judge(bridge, tx.len(), rx.len(), slot, words.len());
+    if verdict.is_ok() {
         return taken(board, bridge, tx, rx, slot, reading, words);
     }
-    refused(board, bridge, judged)
+    Called {
+        board,
+        bridge,
+        verdict,
+    }
 }

@@ -89,7 +89,7 @@ fn called(rt: &impl Print, night: Night, left: Called) -> io::Result<Night> {
         queue::in_use(bridge.sending.queue),
         bridge.sending.tx.count,
     )?;
-    if verdict::is_taken(verdict) {
+    if verdict.is_ok() {
         desk = taken(desk);
     }
     desk.act = BLANK;
@@ -130,7 +130,7 @@ fn frame(name: u64, regs: Regs) -> [u16; 3] {
         FORCE => 0x0004,
         _ => 0x0001,
     };
-    frames::write(
+    let _ = frames::write(
         layout,
         start,
         Order::RegWrCrc { address: address },

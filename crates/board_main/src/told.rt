@@ -9,7 +9,7 @@ use crate::out::{
 use order_lines::Text;
 use registers::{Control, Mode};
 use std::io;
-use verdict::Verdict;
+use verdict::Refusal;
 
 // The first of the reasons of 34 that is so.
 fn not_ready(control: Control) -> usize {
@@ -28,15 +28,15 @@ fn not_ready(control: Control) -> usize {
     }
 }
 
-pub fn text_of(verdict: Verdict, control: Control) -> usize {
+pub fn text_of(verdict: Result<(), Refusal>, control: Control) -> usize {
     match verdict {
-        Verdict::Taken => TAKEN,
-        Verdict::WrongStores => WRONG_STORES,
-        Verdict::BrokenRecord => BROKEN_RECORD,
-        Verdict::NoSlot => NO_SLOT,
-        Verdict::WrongLength => WRONG_LENGTH,
-        Verdict::NotReady => not_ready(control),
-        Verdict::NoRoom => NO_ROOM,
+        Ok(()) => TAKEN,
+        Err(Refusal::WrongStores) => WRONG_STORES,
+        Err(Refusal::BrokenRecord) => BROKEN_RECORD,
+        Err(Refusal::NoSlot) => NO_SLOT,
+        Err(Refusal::WrongLength) => WRONG_LENGTH,
+        Err(Refusal::NotReady) => not_ready(control),
+        Err(Refusal::NoRoom) => NO_ROOM,
     }
 }
 

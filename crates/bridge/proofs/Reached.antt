@@ -1,5 +1,6 @@
 -- Record rules of runs (01 Notes, note 2: "every state reached from power-up obeys them, every step keeps them"), with no premise on the
 -- events; so no event of a run from power-up is refused.
+use Rattle.std.specs.Prelude.{Option, None, Some}
 use mathlib.Core.Path.{◌≡◌, refl, ◌∙◌}
 use mathlib.Core.Bool.{Bool, true, false, not, ◌||◌}
 use mathlib.Core.List.{List, [], ◌∷◌}
@@ -16,8 +17,6 @@ use Rattle.state.specs.Rings.{tx_size, rx_size, written}
 use Rattle.state.specs.declared.Bridge.{Bridge}
 use Rattle.state.specs.declared.Note.{Note}
 use Rattle.state.specs.declared.Ring.{Ring}
-use Rattle.state.specs.declared.Store.{Store}
-use Rattle.state.specs.declared.Store.TheVariants.{Keep, Put}
 use Rattle.kept.proofs.Fits.{LayoutFit}
 use Rattle.kept.proofs.Sound.{sound_facts, facts_sound}
 use Rattle.kept.specs.Rules.{BridgeRules}
@@ -40,10 +39,10 @@ unfolding step pick
 step_turn l b tx rx e t r s = rw (eq-eqb (length tx) tx_size t, eq-eqb (length rx) rx_size r, s)
 
 -- A store keeps its length.
-pub length_written : (size : ℕ) (cells : List ℕ) (r : Ring) (st : Store) → length (written size cells r st) ≡ length cells
+pub length_written : (size : ℕ) (cells : List ℕ) (r : Ring) (st : Option ℕ) → length (written size cells r st) ≡ length cells
 unfolding written
-length_written size cells r Keep = refl
-length_written size cells r (Put w) = length-set cells _ w
+length_written size cells r None = refl
+length_written size cells r (Some w) = length-set cells _ w
 
 -- The notes of events that are not refused.
 not_refusal : (n : Note) → of_host n ≡ true → refuses n ≡ false

@@ -1,5 +1,6 @@
 -- One frame of FWD_WR_CRC from an idle frame: each event's note is 0, the premises of demand 3 hold, and the command is accepted with its
 -- words. Assumes nothing.
+use Rattle.std.specs.Prelude.{Option, None, Some}
 use mathlib.Core.Path.{◌≡◌, refl, ap, ◌∙◌}
 use mathlib.Core.Bool.{Bool, true, false}
 use mathlib.Core.List.{List, [], ◌∷◌, ◌++◌, append_assoc, append-nil}
@@ -33,8 +34,6 @@ use Rattle.state.specs.declared.Ring.{Ring}
 use Rattle.state.specs.declared.Sending.{Sending}
 use Rattle.state.specs.declared.Receiving.{Receiving}
 use Rattle.state.specs.declared.Queue.{Queue}
-use Rattle.state.specs.declared.Store.{Store}
-use Rattle.state.specs.declared.Store.TheVariants.{Keep, Put}
 use Rattle.forwards.specs.Forward.{asks_store, guard, faulted, mine_after, enqueues, clears, forwarded, forward_word, forward_begun}
 use Rattle.host.specs.Frames.{opened, data_word, planned_in, planned}
 use Rattle.closing.specs.Closing.{forward_closed, crc_due}
@@ -67,7 +66,7 @@ unfoldable rest_of : Layouts → ℕ → List ℕ → List Event
 rest_of l sum ws = given (ws ++ (sum_by l sum ws ∷ []))
 
 -- The four plans of such a frame.
-abbrev plan_with : Bridge → Phase → Store → Deed → Bool → Plan
+abbrev plan_with : Bridge → Phase → Option ℕ → Deed → Bool → Plan
 plan_with b p st d status = record {
   phase = p;
   held = b.frame.held;
@@ -101,17 +100,17 @@ module _ (q : Queue) (n : ℕ) (h : in_use q < 8) where
 
 module _ (l : Layouts) (b : Bridge) (x n : ℕ) (clear : blocking b.control.flags ≡ false) where
   plan_open : (w : ℕ) → b.frame.phase ≡ Idle → l.decode b.control.regs.layout w ≡ Forward true n 0 false
-      → planned l b w x ≡ plan_with b (collecting n 0 (l.crc_step (l.crc_start (is_xmodem b.control.regs)) w)) Keep Leave false
+      → planned l b w x ≡ plan_with b (collecting n 0 (l.crc_step (l.crc_start (is_xmodem b.control.regs)) w)) None Leave false
   unfolding planned planned_in opened forward_begun forwarded guard asks_store mine_after enqueues clears faulted pick
   plan_open w p d = rw (p, d, clear) refl
 
   plan_word : (w got sum : ℕ) → b.frame.phase ≡ collecting n got sum → got < n → b.sending.tx.count < 512
-      → planned l b w x ≡ plan_with b (collecting n (got + 1) (l.crc_step sum w)) (Put w) Leave false
+      → planned l b w x ≡ plan_with b (collecting n (got + 1) (l.crc_step sum w)) (Some w) Leave false
   unfolding planned planned_in data_word forward_word forwarded guard asks_store mine_after enqueues clears faulted pick
   plan_word w got sum p h r = rw (p, lt-ltb got n h, lt-leb 512 b.sending.tx.count r) refl
 
   plan_crc : (sum : ℕ) → b.frame.phase ≡ collecting n n sum → 0 < n → in_use b.sending.queue < 8
-      → planned l b sum x ≡ plan_with b Idle Keep (Enqueue (new_place n 0 false)) true
+      → planned l b sum x ≡ plan_with b Idle None (Enqueue (new_place n 0 false)) true
   unfolding planned planned_in crc_due forward_closed guard asks_store faulted pick
   plan_crc sum p h u =
       let z : eqb n 0 ≡ false = ne_eqb n 0 (λ e. omega arith) in
@@ -127,7 +126,7 @@ away_same r (TakeBack n) h = refl
 away_same r ClearAll h = cc
 away_same r ResetAll h = refl
 
-done_sender : (s : Sending) (st : Store) (d : Deed) → clears d ≡ false → (done (stored s st) d).sender ≡ s.sender
+done_sender : (s : Sending) (st : Option ℕ) (d : Deed) → clears d ≡ false → (done (stored s st) d).sender ≡ s.sender
 unfolding clears done stored
 done_sender s st Leave h = refl
 done_sender s st (Enqueue p) h = refl
@@ -135,12 +134,12 @@ done_sender s st (TakeBack n) h = refl
 done_sender s st ClearAll h = cc
 done_sender s st ResetAll h = refl
 
-ring_head : (r : Ring) (st : Store) → (ring_after r st).head ≡ r.head
+ring_head : (r : Ring) (st : Option ℕ) → (ring_after r st).head ≡ r.head
 unfolding ring_after
-ring_head r Keep = refl
-ring_head r (Put w) = refl
+ring_head r None = refl
+ring_head r (Some w) = refl
 
-done_head : (s : Sending) (st : Store) (d : Deed) → (done (stored s st) d).tx.head ≡ s.tx.head
+done_head : (s : Sending) (st : Option ℕ) (d : Deed) → (done (stored s st) d).tx.head ≡ s.tx.head
 unfolding done stored
 done_head s st Leave = ring_head s.tx st
 done_head s st (Enqueue p) = ring_head s.tx st
@@ -149,7 +148,7 @@ done_head s st ClearAll = ring_head s.tx st
 done_head s st ResetAll = ring_head s.tx st
 
 -- a word stored in TX
-cells_written : (w : ℕ) (cells : List ℕ) (r : Ring) → w < 65536 → Sixteens cells → Sixteens (written 512 cells r (Put w))
+cells_written : (w : ℕ) (cells : List ℕ) (r : Ring) → w < 65536 → Sixteens cells → Sixteens (written 512 cells r (Some w))
 unfolding written
 cells_written w cells r h f i =
     elim (ℕ_discrete i (cell_of 512 r)) [
@@ -184,7 +183,7 @@ module _ (l : Layouts) (fits : LayoutFit l) (c : Config) (s : Obeys c) (f : bloc
     rx = c.rx;
   }
 
-  same_carried : (k : Clock) (ph : Phase) (st : Store) (d : Deed) (status : Bool) → clears d ≡ false
+  same_carried : (k : Clock) (ph : Phase) (st : Option ℕ) (d : Deed) (status : Bool) → clears d ≡ false
       → Same c (carried k (plan_with c.bridge ph st d status))
   unfolding performed settled received
   same_carried k ph st d status h =
@@ -209,7 +208,7 @@ module _ (l : Layouts) (fits : LayoutFit l) (c : Config) (s : Obeys c) (f : bloc
     next_carried = rw (obeyed_turn l fits c e s, r) refl
 
   -- an event whose rule carries out such a plan
-  stepped : (e : Event) (k : Clock) (ph : Phase) (st : Store) (d : Deed) (status : Bool) → Typed e → is_power e ≡ false → clears d ≡ false
+  stepped : (e : Event) (k : Clock) (ph : Phase) (st : Option ℕ) (d : Deed) (status : Bool) → Typed e → is_power e ≡ false → clears d ≡ false
       → plan_of l c e ≡ plan_with c.bridge ph st d status
       → reacted l c.bridge e (oldest c.tx c.bridge.sending.tx) (oldest c.rx c.bridge.receiving.rx)
       ≡ hosted l c.bridge k (plan_with c.bridge ph st d status)
@@ -233,18 +232,18 @@ module _ (l : Layouts) (fits : LayoutFit l) (c : Config) (s : Obeys c) (f : bloc
         cells_are = rw o refl;
       }
 
-  stepped_word : (w : ℕ) (ph : Phase) (st : Store) (d : Deed) (status : Bool) → w < 65536 → clears d ≡ false
+  stepped_word : (w : ℕ) (ph : Phase) (st : Option ℕ) (d : Deed) (status : Bool) → w < 65536 → clears d ≡ false
       → planned l c.bridge w (oldest c.rx c.bridge.receiving.rx) ≡ plan_with c.bridge ph st d status
       → Stepped l c (Word w) (plan_with c.bridge ph st d status)
   unfolding is_power plan_of reacted
   stepped_word w ph st d status t h p = stepped (Word w) (marked c.bridge.clock) ph st d status t refl h p (rw p refl)
 
-  stepped_release : (ph : Phase) → c.bridge.frame.phase ≡ ph → released_in c.bridge ph ≡ plan_with c.bridge Idle Keep Leave false
-      → Stepped l c Release (plan_with c.bridge Idle Keep Leave false)
+  stepped_release : (ph : Phase) → c.bridge.frame.phase ≡ ph → released_in c.bridge ph ≡ plan_with c.bridge Idle None Leave false
+      → Stepped l c Release (plan_with c.bridge Idle None Leave false)
   unfolding is_power plan_of reacted clears
   stepped_release ph e p =
-      let q : released_in c.bridge c.bridge.frame.phase ≡ plan_with c.bridge Idle Keep Leave false = ap (released_in c.bridge) e ∙ p in
-      stepped Release c.bridge.clock Idle Keep Leave false tt refl refl q (ap (hosted l c.bridge c.bridge.clock) q)
+      let q : released_in c.bridge c.bridge.frame.phase ≡ plan_with c.bridge Idle None Leave false = ap (released_in c.bridge) e ∙ p in
+      stepped Release c.bridge.clock Idle None Leave false tt refl refl q (ap (hosted l c.bridge c.bridge.clock) q)
 
 -- A log with no command accepted in the open frame.
 abbrev pub log_of : List (List ℕ) → List ℕ → Log
@@ -277,30 +276,30 @@ same_then c d e a b =
 
 -- what each plan adds to the log
 module _ (l : Layouts) (b : Bridge) (D : List (List ℕ)) (mine : List ℕ) where
-  log_open : (n got sum : ℕ) → logged (log_of D mine) (plan_with b (collecting n got sum) Keep Leave false) ≡ log_of D mine
+  log_open : (n got sum : ℕ) → logged (log_of D mine) (plan_with b (collecting n got sum) None Leave false) ≡ log_of D mine
   unfolding logged settle collects came accepts
   log_open n got sum = refl
 
-  log_word : (n got sum w : ℕ) → logged (log_of D mine) (plan_with b (collecting n got sum) (Put w) Leave false) ≡ log_of D (mine ++ (w ∷ []))
+  log_word : (n got sum w : ℕ) → logged (log_of D mine) (plan_with b (collecting n got sum) (Some w) Leave false) ≡ log_of D (mine ++ (w ∷ []))
   unfolding logged settle collects came accepts
   log_word n got sum w = refl
 
-  log_crc : (n : ℕ) → 0 < n → logged (log_of D mine) (plan_with b Idle Keep (Enqueue (new_place n 0 false)) true) ≡ log_of (D ++ (mine ∷ [])) []
+  log_crc : (n : ℕ) → 0 < n → logged (log_of D mine) (plan_with b Idle None (Enqueue (new_place n 0 false)) true) ≡ log_of (D ++ (mine ∷ [])) []
   unfolding logged settle collects came accepts joined new_place
   log_crc n h = rw (lt-ltb 0 n h) refl
 
-log_release : (b : Bridge) (D : List (List ℕ)) → logged (log_of D []) (plan_with b Idle Keep Leave false) ≡ log_of D []
+log_release : (b : Bridge) (D : List (List ℕ)) → logged (log_of D []) (plan_with b Idle None Leave false) ≡ log_of D []
 unfolding logged settle collects came accepts joined
 log_release b D = refl
 
 module _ (l : Layouts) (fits : LayoutFit l) (speaks : Speaks l) where
   -- chip select released after the CRC word
   ran_release : (c : Config) (D : List (List ℕ)) → Obeys c → blocking c.bridge.control.flags ≡ false → (x : Bool) (k : Control)
-      → c.bridge.frame.phase ≡ concluded l x true k Idle → Stepped l c Release (plan_with c.bridge Idle Keep Leave false)
+      → c.bridge.frame.phase ≡ concluded l x true k Idle → Stepped l c Release (plan_with c.bridge Idle None Leave false)
   unfolding concluded pick
   ran_release c D s f x k e =
       stepped_release l fits c s f _ e
-      (pick_keeps (λ (q : Phase). released_in c.bridge q ≡ plan_with c.bridge Idle Keep Leave false) (bit 0 k.regs.spictrl) _ _
+      (pick_keeps (λ (q : Phase). released_in c.bridge q ≡ plan_with c.bridge Idle None Leave false) (bit 0 k.regs.spictrl) _ _
       (λ t. unfold released_in in refl) (λ t. unfold released_in in refl))
 
   ran_crc : (c : Config) (D : List (List ℕ)) (mine : List ℕ) (n sum : ℕ) → Obeys c → blocking c.bridge.control.flags ≡ false
@@ -308,13 +307,13 @@ module _ (l : Layouts) (fits : LayoutFit l) (speaks : Speaks l) where
       → Ran l c D mine [] n (rest_of l sum [])
   unfolding rest_of given sum_by end_of log_by
   ran_crc c D mine n sum s f p h u k =
-      let a : Stepped l c (Word sum) (plan_with c.bridge Idle Keep (Enqueue (new_place n 0 false)) true)
-      = stepped_word l fits c s f sum Idle Keep (Enqueue (new_place n 0 false)) true k (unfold clears in refl) (plan_crc l c.bridge _ n f sum p h u) in
+      let a : Stepped l c (Word sum) (plan_with c.bridge Idle None (Enqueue (new_place n 0 false)) true)
+      = stepped_word l fits c s f sum Idle None (Enqueue (new_place n 0 false)) true k (unfold clears in refl) (plan_crc l c.bridge _ n f sum p h u) in
       let d : Config = next l c (Word sum) in
-      let r : Stepped l d Release (plan_with d.bridge Idle Keep Leave false)
+      let r : Stepped l d Release (plan_with d.bridge Idle None Leave false)
       = ran_release d D a.obeys (rw a.same.flags f) _ _ a.phase_is in
-      let q : (next l d Release).bridge.sending ≡ done (stored (done (stored c.bridge.sending Keep) (Enqueue (new_place n 0 false))) Keep) Leave
-      = r.sending_is ∙ ap (λ (t : Sending). done (stored t Keep) Leave) a.sending_is in
+      let q : (next l d Release).bridge.sending ≡ done (stored (done (stored c.bridge.sending None) (Enqueue (new_place n 0 false))) None) Leave
+      = r.sending_is ∙ ap (λ (t : Sending). done (stored t None) Leave) a.sending_is in
       record {
         notes = (a.note_is, (r.note_is, tt));
         premises = (a.fair, (r.fair, tt));
@@ -356,10 +355,10 @@ module _ (l : Layouts) (fits : LayoutFit l) (speaks : Speaks l) where
   ran_rest [] c D mine n got sum s f p h e u r k t =
       let z : got ≡ n = omega arith in (ran_crc c D mine n sum s f (rw z at p) h u t)
   ran_rest (w ∷ ws) c D mine n got sum s f p h e u r k t =
-      let a : Stepped l c (Word w) (plan_with c.bridge (collecting n (got + 1) (l.crc_step sum w)) (Put w) Leave false)
-      = stepped_word l fits c s f w _ (Put w) Leave false k.0 (unfold clears in refl) (plan_word l c.bridge _ n f w got sum p (omega arith) (omega arith)) in
+      let a : Stepped l c (Word w) (plan_with c.bridge (collecting n (got + 1) (l.crc_step sum w)) (Some w) Leave false)
+      = stepped_word l fits c s f w _ (Some w) Leave false k.0 (unfold clears in refl) (plan_word l c.bridge _ n f w got sum p (omega arith) (omega arith)) in
       let d : Config = next l c (Word w) in
-      let g : d.bridge.sending ≡ stored c.bridge.sending (Put w) = a.sending_is ∙ (unfold done in refl) in
+      let g : d.bridge.sending ≡ stored c.bridge.sending (Some w) = a.sending_is ∙ (unfold done in refl) in
       let q : d.bridge.sending.queue ≡ c.bridge.sending.queue = ap (λ (x : Sending). x.queue) g ∙ (unfold stored in refl) in
       let m : d.bridge.sending.tx.count ≡ c.bridge.sending.tx.count + 1 = ap (λ (x : Sending). x.tx.count) g ∙ (unfold stored ring_after in refl) in
       let ph : d.bridge.frame.phase ≡ collecting n (got + 1) (l.crc_step sum w) = a.phase_is ∙ (unfold concluded pick in refl) in
@@ -382,8 +381,8 @@ module _ (l : Layouts) (fits : LayoutFit l) (speaks : Speaks l) where
       let w : ℕ = command_word form FwdWrCrc n in
       let sum : ℕ = l.crc_step (l.crc_start x) w in
       let t : w < 65536 = omega arith in
-      let a : Stepped l c (Word w) (plan_with c.bridge (collecting n 0 sum) Keep Leave false)
-      = stepped_word l fits c s f w _ Keep Leave false t (unfold clears in refl) (plan_open l c.bridge _ n f w p (speaks.forward form n some most)) in
+      let a : Stepped l c (Word w) (plan_with c.bridge (collecting n 0 sum) None Leave false)
+      = stepped_word l fits c s f w _ None Leave false t (unfold clears in refl) (plan_open l c.bridge _ n f w p (speaks.forward form n some most)) in
       let d : Config = next l c (Word w) in
       let g : d.bridge.sending ≡ c.bridge.sending = a.sending_is ∙ (unfold done stored ring_after in refl) in
       let q : d.bridge.sending.queue ≡ c.bridge.sending.queue = ap (λ (y : Sending). y.queue) g in

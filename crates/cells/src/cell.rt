@@ -13,11 +13,13 @@ pub fn state(c: Control) -> u64
     ensures { Four result mark (mode_number c.mode) (layout_number c.regs.layout) (state_marks c) }
 {
     let f = c.flags;
-    let regs = c.regs;
-    let mode = c.mode;
-    let layout = regs.layout;
     let marks = parts::five(c.drdy, f.otp, f.por, f.srst, f.reg_write);
-    parts::four(MARK, parts::of_mode(mode), parts::of_layout(layout), marks)
+    parts::four(
+        MARK,
+        parts::of_mode(c.mode),
+        parts::of_layout(c.regs.layout),
+        marks,
+    )
 }
 
 pub fn flags(f: Flags, regs: Regs) -> u64
@@ -31,8 +33,7 @@ pub fn flags(f: Flags, regs: Regs) -> u64
 pub fn piece(s: Sender, g: Reader, k: Clock) -> u64
     ensures { Four result s.ends (piece_parts s.piece).kind (piece_parts s.piece).a (line_marks g k) }
 {
-    let piece = s.piece;
-    let p = parts::of_piece(piece);
+    let p = parts::of_piece(s.piece);
     let marks = parts::five(g.belongs, g.storing, g.stored, k.watching, k.sin);
     parts::four(s.ends, p.kind, p.a, marks)
 }
@@ -40,33 +41,29 @@ pub fn piece(s: Sender, g: Reader, k: Clock) -> u64
 pub fn ear(g: Reader) -> u64
     ensures { Four result (ear_parts g.ear).kind (ear_parts g.ear).a (ear_parts g.ear).b (ear_parts g.ear).c }
 {
-    let ear = g.ear;
-    let p = parts::of_ear(ear);
+    let p = parts::of_ear(g.ear);
     parts::four(p.kind, p.a, p.b, p.c)
 }
 
 pub fn clock(g: Reader, k: Clock) -> u64
     ensures { Four result (ear_parts g.ear).d k.reading k.mark k.watch_mark }
 {
-    let ear = g.ear;
-    let p = parts::of_ear(ear);
+    let p = parts::of_ear(g.ear);
     parts::four(p.d, k.reading, k.mark, k.watch_mark)
 }
 
 pub fn phase(f: Frame) -> u64
     ensures { Four result (phase_parts f.phase).kind (phase_parts f.phase).a (phase_parts f.phase).b (phase_parts f.phase).c }
 {
-    let phase = f.phase;
-    let p = parts::of_phase(phase);
+    let p = parts::of_phase(f.phase);
     parts::four(p.kind, p.a, p.b, p.c)
 }
 
 pub fn open(f: Frame) -> u64
     ensures { Four result (open_parts f.phase).kind (open_parts f.phase).a (open_parts f.phase).b (frame_marks f) }
 {
-    let phase = f.phase;
-    let p = parts::of_phase(phase);
-    let h = parts::of_open(phase);
+    let p = parts::of_phase(f.phase);
+    let h = parts::of_open(f.phase);
     let marks = parts::five(p.x, p.y, h.x, h.y, f.xmodem);
     parts::four(h.kind, h.a, h.b, marks)
 }

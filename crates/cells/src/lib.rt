@@ -111,10 +111,8 @@ fn are_same(c: &Cells, d: &Cells) -> bool
     ensures { result ≡ same_up_to 23 c.now d.now }
 {
     let mut same = true;
-    let mut i: usize = 0;
-    while i < 23 {
-        same = same & (c[i] == d[i]);
-        i = i + 1;
+    for i in 0..23 {
+        same &= c[i] == d[i];
     }
     same
 }

@@ -25,8 +25,7 @@ use Rattle.events.specs.declared.Event.TheVariants.{Tick}
 use Rattle.bridge.specs.Step.{step}
 use Rattle.bridge.specs.Runs.{out_of, next}
 use Rattle.drain.specs.Drain.{at_rest}
-use Rattle.verdict.specs.Verdicts.{is_no_room, verdict_by}
-use Rattle.verdict.specs.declared.Verdict.{Verdict}
+use Rattle.verdict.specs.Verdicts.{is_no_room, verdict_by, Verdict}
 use Rattle.board.specs.Moments.{config}
 use Rattle.chain.specs.Echo.{echo}
 use Rattle.chain.specs.Chain.{Moment, moment, back, filled, onward, ticked, Gone, gone, gone_from}
@@ -73,35 +72,43 @@ module _ (b : Bridge) (tx rx : List ℕ) where
 pub may_choose : (b : Bridge) (t : Bool) → t ≡ sound b → t ≡ true → SendFit b.sending
 may_choose b t s f = (host_fit b (sym s ∙ f)).sending
 
-pub head_within : (b : Bridge) (tx : List ℕ) (t : Bool) → length tx ≡ 512 → t ≡ sound b → t ≡ true → b.sending.tx.head < length tx
-head_within b tx t h s f = rw h (may_choose b t s f).tx.head
+-- the chain, by whether it has cells
+module _ (chain : List Bool) (at : ℕ) (sout : Bool) where
+  module _ (z : length chain ≡ 0) where
+    pub straight_back : sout ≡ back chain at sout
+    unfolding back
+    straight_back = pick_eq _ _ _ _ _ z refl
 
--- a place in the ring
-pub in_ring : (i n : ℕ) → (n ≡ 0 → ⊥) → i % n < n
-in_ring i n h = mod-lt i (omega arith)
+    pub straight_onward : at ≡ onward chain at
+    unfolding onward
+    straight_onward = pick_eq _ _ _ _ _ z refl
 
-pub next_fits : (i n : ℕ) → (n ≡ 0 → ⊥) → n < 2 ^ 64 → i % n + 1 < 2 ^ 64
-next_fits i n h k = let l : i % n < n = in_ring i n h in omega arith
+    pub straight_filled : chain ≡ filled chain at sout
+    unfolding filled
+    straight_filled = pick_eq _ _ _ _ _ z refl
 
--- a tick, by what `sout` and `step` gave
-module _ (b : Bridge) (tx rx : List ℕ) (chain : List Bool) (at : ℕ) (bit : Bool) (h : bit ≡ echo layouts (config b tx rx))
-    (a : Answer) (t r : List ℕ) where
-  pub to_straight : length chain ≡ 0 → out a t r ≡ step layouts b tx rx (Tick bit)
-      → gone (record { bridge = a.state; oldest = at; sout = bit }) t r chain ≡ gone_from (moment b tx rx chain at)
-  unfolding ticked back filled onward next out_of pick
-  to_straight z e =
-      rw (eq-eqb (length chain) 0 z, ← h)
-      (ap (λ (o : Out). gone (record { bridge = o.answer.state; oldest = at; sout = bit }) o.tx o.rx chain) e)
+  module _ (z : length chain ≡ 0 → ⊥) where
+    pub chained_back : get_or chain (at % length chain) false ≡ back chain at sout
+    unfolding back
+    chained_back = pick_ne _ _ _ _ _ z refl
 
-  pub to_chained : (length chain ≡ 0 → ⊥) → out a t r ≡ step layouts b tx rx (Tick (get_or chain (at % length chain) false))
-      → gone (record { bridge = a.state; oldest = (at % length chain + 1) % length chain; sout = bit }) t r (set chain (at % length chain) bit)
-      ≡ gone_from (moment b tx rx chain at)
-  unfolding ticked back filled onward next out_of pick
-  to_chained z e =
-      rw (ne_eqb (length chain) 0 z, ← h)
-      (ap
-      (λ (o : Out). gone (record { bridge = o.answer.state; oldest = (at % length chain + 1) % length chain; sout = bit }) o.tx o.rx
-      (set chain (at % length chain) bit)) e)
+    pub chained_onward : (at % length chain + 1) % length chain ≡ onward chain at
+    unfolding onward
+    chained_onward = pick_ne _ _ _ _ _ z refl
+
+    pub chained_filled : set chain (at % length chain) sout ≡ filled chain at sout
+    unfolding filled
+    chained_filled = pick_ne _ _ _ _ _ z refl
+
+-- a tick, by what `sout`, `pass` and `step` gave
+pub to_ticked : (b : Bridge) (tx rx : List ℕ) (chain : List Bool) (at : ℕ) (sout sin : Bool) (on : ℕ) (ch : List Bool) (a : Answer) (t r : List ℕ)
+    → sout ≡ echo layouts (config b tx rx) → sin ≡ back chain at sout → on ≡ onward chain at → ch ≡ filled chain at sout
+    → out a t r ≡ step layouts b tx rx (Tick sin)
+    → gone (record { bridge = a.state; oldest = on; sout = sout }) t r ch ≡ gone_from (moment b tx rx chain at)
+unfolding ticked next out_of
+to_ticked b tx rx chain at sout sin on ch a t r h p q f e =
+    rw (← h, f, q)
+    (ap (λ (o : Out). gone (record { bridge = o.answer.state; oldest = onward chain at; sout = sout }) o.tx o.rx (filled chain at sout)) (rw p at e))
 
 -- an arm knows the goal
 module _ (goal : Goal) (b : Bridge) (tx rx : List ℕ) where
@@ -115,58 +122,34 @@ module _ (goal : Goal) (b : Bridge) (tx rx : List ℕ) where
   to_sent t g h = rw (g, h)
 
 -- what is left of a wait is the whole wait
-pub record Inv (budget : ℕ) (goal : Goal) (m : Moment) (b : Bridge) (tx rx : List ℕ) (chain : List Bool) (at ticks : ℕ) (bit : Bool)
-    : Type 0 where
-  pub whole : wait_of (budget - ticks) goal (waiting (moment b tx rx chain at) ticks bit) ≡ wait_from budget goal m
-  pub tx_is : length tx ≡ length m.at.tx
-  pub rx_is : length rx ≡ length m.at.rx
-  pub chain_is : length chain ≡ length m.chain
-  pub fits : budget < 2 ^ 32
+pub begins : (budget : ℕ) (goal : Goal) (m : Moment) → wait_of (budget - 0) goal (waiting m 0 true) ≡ wait_from budget goal m
+begins budget goal m = let z : budget - 0 ≡ budget = omega arith in ap (λ (n : ℕ). wait_of n goal (waiting m 0 true)) z
 
-pub begins : (budget : ℕ) (goal : Goal) (b : Bridge) (tx rx : List ℕ) (chain : List Bool) (at : ℕ) → budget < 2 ^ 32
-    → Inv budget goal (moment b tx rx chain at) b tx rx chain at 0 true
-begins budget goal b tx rx chain at h =
-    let z : budget - 0 ≡ budget = omega arith in
-    record {
-      whole = ap (λ (n : ℕ). wait_of n goal (waiting (moment b tx rx chain at) 0 true)) z;
-      tx_is = refl;
-      rx_is = refl;
-      chain_is = refl;
-      fits = h;
-    }
-
-module _ (budget : ℕ) (goal : Goal) (m : Moment) (b : Bridge) (tx rx : List ℕ) (chain : List Bool) (at ticks : ℕ) (bit : Bool)
-    (v : Inv budget goal m b tx rx chain at ticks bit) where
+module _ (budget : ℕ) (goal : Goal) (m : Moment) (b : Bridge) (tx rx : List ℕ) (chain : List Bool) (at ticks : ℕ) (bit : Bool) where
   abbrev now : Waiting
   now = waiting (moment b tx rx chain at) ticks bit
 
-  less : ticks < budget → wait_of (budget - ticks) goal now ≡ wait_of (suc (budget - (ticks + 1))) goal now
-  less h = let z : budget - ticks ≡ suc (budget - (ticks + 1)) = omega arith in ap (λ (n : ℕ). wait_of n goal now) z
+  module _ (v : wait_of (budget - ticks) goal now ≡ wait_from budget goal m) where
+    less : ticks < budget → wait_of (budget - ticks) goal now ≡ wait_of (suc (budget - (ticks + 1))) goal now
+    less h = let z : budget - ticks ≡ suc (budget - (ticks + 1)) = omega arith in ap (λ (n : ℕ). wait_of n goal now) z
 
-  pub one_more : ticks < budget → ticks + 1 < 2 ^ 32
-  one_more h = omega arith
+    pub to_met : ticks < budget → (i : Bool) → i ≡ met goal (config b tx rx) → i ≡ true → now ≡ wait_from budget goal m
+    unfolding wait_of
+    to_met h i p q = pick_true _ _ _ _ (sym p ∙ q) refl ∙ sym (less h) ∙ v
 
-  pub to_met : ticks < budget → (i : Bool) → i ≡ met goal (config b tx rx) → i ≡ true → now ≡ wait_from budget goal m
-  unfolding wait_of
-  to_met h i p q = pick_true _ _ _ _ (sym p ∙ q) refl ∙ sym (less h) ∙ v.whole
+    pub again : ticks < budget → (i : Bool) → i ≡ met goal (config b tx rx) → i ≡ false → (r : Ticked) (t u : List ℕ) (ch : List Bool)
+        → gone r t u ch ≡ gone_from (moment b tx rx chain at)
+        → wait_of (budget - (ticks + 1)) goal (waiting (moment r.bridge t u ch r.oldest) (ticks + 1) r.sout) ≡ wait_from budget goal m
+    unfolding wait_of
+    again h i p q r t u ch e =
+        ap (λ (g : Gone). wait_of (budget - (ticks + 1)) goal (waiting g.moment (ticks + 1) g.sout)) e
+        ∙ pick_false _ _ _ _ (sym p ∙ q) refl
+        ∙ sym (less h)
+        ∙ v
 
-  pub to_budget : budget ≤ ticks → now ≡ wait_from budget goal m
-  unfolding wait_of
-  to_budget h = let z : budget - ticks ≡ 0 = omega arith in sym (ap (λ (n : ℕ). wait_of n goal now) z) ∙ v.whole
-
-  pub again : ticks < budget → (i : Bool) → i ≡ met goal (config b tx rx) → i ≡ false → (r : Ticked) (t u : List ℕ) (ch : List Bool)
-      → gone r t u ch ≡ gone_from (moment b tx rx chain at) → length t ≡ length tx → length u ≡ length rx → length ch ≡ length chain
-      → Inv budget goal m r.bridge t u ch r.oldest (ticks + 1) r.sout
-  unfolding wait_of
-  again h i p q r t u ch e x y z =
-      record {
-        whole =
-            ap (λ (g : Gone). wait_of (budget - (ticks + 1)) goal (waiting g.moment (ticks + 1) g.sout)) e
-            ∙ pick_false _ _ _ _ (sym p ∙ q) refl
-            ∙ sym (less h)
-            ∙ v.whole;
-        tx_is = x ∙ v.tx_is;
-        rx_is = y ∙ v.rx_is;
-        chain_is = z ∙ v.chain_is;
-        fits = v.fits;
-      }
+    pub to_budget : budget ≤ ticks → ticks ≤ budget → waiting (moment b tx rx chain at) budget bit ≡ wait_from budget goal m
+    unfolding wait_of
+    to_budget h k =
+        let e : budget ≡ ticks = omega arith in
+        let z : budget - ticks ≡ 0 = omega arith in
+        ap (λ (n : ℕ). waiting (moment b tx rx chain at) n bit) e ∙ sym (ap (λ (n : ℕ). wait_of n goal now) z) ∙ v

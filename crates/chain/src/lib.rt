@@ -7,14 +7,14 @@ ghost use Rattle.command.specs.Layouts.{layouts};
 ghost use Rattle.drain.specs.Drain.{at_rest};
 ghost use Rattle.chain.specs.Echo.{echo};
 ghost use Rattle.board.specs.Moments.{config};
-ghost use Rattle.chain.specs.Chain.{moment, gone, gone_from};
+ghost use Rattle.chain.specs.Chain.{moment, back, filled, onward, gone, gone_from};
 ghost use Rattle.chain.specs.Waits.{met as met_of, waited, wait_from};
 
 use events::Event;
 use state::Bridge;
 
 // What a wait is for: that a call-up for this slot, of so many words, finds room; that nothing is left to send.
-#[derive(Clone, Copy)]
+#[derive(Clone, Copy, PartialEq, Eq)]
 pub enum Goal {
     Room { slot: u16, words: usize },
     Sent,
@@ -41,22 +41,31 @@ pub struct Waited {
 pub fn sout(bridge: Bridge, tx: &[u16], rx: &[u16]) -> bool
     ensures { result ≡ echo layouts (config bridge tx.now rx.now) }
 {
-    if tx.len() != 512 {
+    if tx.len() != 512 || rx.len() != 256 || !rules::sound(bridge) {
         return true;
     }
-    if rx.len() != 256 {
-        return true;
-    }
-    if rules::sound(bridge) {
-        let may = next::may_start(bridge.control);
-        let kind = next::choose(bridge.sending, may);
-        let head = bridge.sending.tx.head as usize;
-        return next::bit_sent(kind, bridge.sending.sender, tx[head]);
-    }
-    true
+    let kind = next::choose(bridge.sending, next::may_start(bridge.control));
+    let head = bridge.sending.tx.head as usize;
+    next::bit_sent(kind, bridge.sending.sender, tx[head])
 }
 
-// One tick of bridge and chain. The chain's cells are the bits under way; without cells SIN is this tick's own bit.
+// The bit that comes back while this one goes out and takes its cell, and the cell of the oldest bit then. Without cells SIN is this tick's own bit.
+fn pass(chain: &mut [bool], oldest: usize, sout: bool) -> (bool, usize)
+    ensures sin { result.0 ≡ back chain.old oldest sout }
+    ensures oldest { result.1 ≡ onward chain.old oldest }
+    ensures cells { chain.new ≡ filled chain.old oldest sout }
+{
+    let n = chain.len();
+    if n == 0 {
+        return (sout, oldest);
+    }
+    let i = oldest % n;
+    let sin = chain[i];
+    chain[i] = sout;
+    (sin, (i + 1) % n)
+}
+
+// One tick of bridge and chain. The chain's cells are the bits under way.
 pub fn tick(
     bridge: Bridge,
     tx: &mut [u16],
@@ -66,27 +75,12 @@ pub fn tick(
 ) -> Ticked
     ensures { gone result tx.new rx.new chain.new ≡ gone_from (moment bridge tx.old rx.old chain.old oldest) }
 {
-    let bit = sout(bridge, tx, rx);
-    let n = chain.len();
-    if n == 0 {
-        let answer = bridge::step(bridge, tx, rx, Event::Tick(bit));
-        let after = answer.state;
-        return Ticked {
-            bridge: after,
-            oldest: oldest,
-            sout: bit,
-        };
-    }
-    let i = oldest % n;
-    let onward = (i + 1) % n;
-    let sin = chain[i];
-    chain[i] = bit;
-    let answer = bridge::step(bridge, tx, rx, Event::Tick(sin));
-    let after = answer.state;
+    let sout = sout(bridge, tx, rx);
+    let (sin, oldest) = pass(chain, oldest, sout);
     Ticked {
-        bridge: after,
-        oldest: onward,
-        sout: bit,
+        bridge: bridge::step(bridge, tx, rx, Event::Tick(sin)).state,
+        oldest,
+        sout,
     }
 }
 
@@ -126,27 +120,25 @@ pub fn wait(
 {
     let mut b = bridge;
     let mut at = oldest;
-    let mut bit = true;
-    let mut ticks: u32 = 0;
-    while ticks < budget {
+    let mut sout = true;
+    for ticks in 0..budget {
         if met(goal, b, tx, rx) {
             return Waited {
                 bridge: b,
                 oldest: at,
-                ticks: ticks,
-                sout: bit,
+                ticks,
+                sout,
             };
         }
         let went = tick(b, tx, rx, chain, at);
         b = went.bridge;
         at = went.oldest;
-        bit = went.sout;
-        ticks = ticks + 1;
+        sout = went.sout;
     }
     Waited {
         bridge: b,
         oldest: at,
-        ticks: ticks,
-        sout: bit,
+        ticks: budget,
+        sout,
     }
 }

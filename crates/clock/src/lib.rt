@@ -13,7 +13,7 @@ use ticks::{Did, quietly};
 fn elapsed(reading: u16, mark: u16) -> u16
     ensures { result ≡ elapsed_of reading mark }
 {
-    std::num::wrapping_sub_u16(reading, mark)
+    reading.wrapping_sub(mark)
 }
 
 pub fn watch_fires(clock: Clock, reading: u16) -> bool
@@ -26,10 +26,8 @@ pub fn watch_fires(clock: Clock, reading: u16) -> bool
 pub fn dog_fires(bridge: Bridge, reading: u16) -> bool
     ensures { result ≡ dog_fires bridge reading }
 {
-    let control = bridge.control;
-    let mode = control.mode;
-    let limit = registers::dog_limit(control.regs);
-    let normal = registers::is_normal(mode);
+    let limit = registers::dog_limit(bridge.control.regs);
+    let normal = registers::is_normal(bridge.control.mode);
     let on = 0 < limit;
     let due = limit <= elapsed(reading, bridge.clock.mark);
     normal & on & due
@@ -38,33 +36,26 @@ pub fn dog_fires(bridge: Bridge, reading: u16) -> bool
 fn mode_at(mode: Mode, fires: bool) -> Mode
     ensures { result ≡ mode_at mode fires }
 {
-    if fires {
-        return Mode::Failsafe;
-    }
-    mode
+    if fires { Mode::Failsafe } else { mode }
 }
 
 fn flags_at(flags: Flags, fires: bool) -> Flags
     ensures { result ≡ flags_at flags fires }
 {
     if fires {
-        return registers::raise(flags, Flag::SinStuck);
+        registers::raise(flags, Flag::SinStuck)
+    } else {
+        flags
     }
-    flags
 }
 
 pub fn control_at(control: Control, bites: bool, fires: bool, count: u16) -> Control
     ensures { result ≡ control_at control bites fires count }
 {
-    let before = control.mode;
-    let mode = mode_at(before, bites);
-    let flags = flags_at(control.flags, fires);
-    let regs = control.regs;
     let after = Control {
-        mode: mode,
-        drdy: control.drdy,
-        flags: flags,
-        regs: regs,
+        mode: mode_at(control.mode, bites),
+        flags: flags_at(control.flags, fires),
+        ..control
     };
     plan::settled(after, count, false)
 }
@@ -72,14 +63,16 @@ pub fn control_at(control: Control, bites: bool, fires: bool, count: u16) -> Con
 fn clocked_by(bridge: Bridge, reading: u16, bites: bool, fires: bool) -> Bridge
     ensures { result ≡ clocked_by bridge reading bites fires }
 {
-    let control = control_at(bridge.control, bites, fires, bridge.receiving.rx.count);
-    let mut clock = bridge.clock;
-    clock.reading = reading;
-    clock.watching = bridge.clock.watching & !fires;
-    let mut after = bridge;
-    after.control = control;
-    after.clock = clock;
-    after
+    let clock = Clock {
+        reading,
+        watching: bridge.clock.watching & !fires,
+        ..bridge.clock
+    };
+    Bridge {
+        control: control_at(bridge.control, bites, fires, bridge.receiving.rx.count),
+        clock,
+        ..bridge
+    }
 }
 
 pub fn clocked(bridge: Bridge, reading: u16) -> Did

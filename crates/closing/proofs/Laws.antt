@@ -1,4 +1,5 @@
 -- The rules of the CRC word by their parts and arms, as the proofs of src/lib.rt ask them. Assumes nothing.
+use Rattle.std.specs.Prelude.{None}
 use mathlib.Core.Path.{◌≡◌}
 use mathlib.Core.Bool.{Bool, true, false, not, ◌&&◌}
 use Prim.Native.Nat.{ℕ, ◌+◌, ◌≤◌}
@@ -19,7 +20,6 @@ use Rattle.state.specs.declared.Note.TheVariants.{Done, CrcRefused, CrcWrong, Re
 use Rattle.state.specs.declared.Phase.TheVariants.{Idle, Answering}
 use Rattle.state.specs.declared.Place.{Place}
 use Rattle.state.specs.declared.Reply.{Reply}
-use Rattle.state.specs.declared.Store.TheVariants.{Keep}
 use Rattle.plan.specs.Plan.{plain}
 use Rattle.plan.specs.declared.Plan.{Plan}
 use Rattle.plan.specs.declared.Receive.TheVariants.{LeaveRx, ResetRx}
@@ -64,7 +64,7 @@ module _ (b : Bridge) (x : Plan) where
   to_registers crc now address count done q d e = rw (← q, ← d) e
 
   pub to_closed : (crc : Bool) (words ends : ℕ) (reads blocked : Bool) (p : Place) (g : Granted) (c : Control) → p ≡ new_place words ends reads
-      → g ≡ guard blocked b.sending.tx.count b.sending.queue (wish Keep (crc && not (eqb words 0 && eqb ends 0)) p)
+      → g ≡ guard blocked b.sending.tx.count b.sending.queue (wish None (crc && not (eqb words 0 && eqb ends 0)) p)
       → c ≡ faulted b.control g.note → x ≡ closed b c g.deed LeaveRx g.note → x ≡ forward_closed b crc words ends reads blocked
   unfolding forward_closed
   to_closed crc words ends reads blocked p g c hp hg hc e = rw (← hp, ← hg, ← hc) e

@@ -1,5 +1,5 @@
 -- The CRC word (01 Frames; notes 6, 7, 9, 10 and 11): what a right and a wrong one do. Assumes nothing.
-use Rattle.std.specs.Prelude.{Bool, true, not, ◌&&◌, ℕ, eqb, take}
+use Rattle.std.specs.Prelude.{Bool, true, not, ◌&&◌, ℕ, eqb, take, None}
 use Rattle.base.specs.Pick.{pick}
 use Rattle.command.specs.Layouts.{Layouts}
 use Rattle.command.specs.declared.Command.{Command}
@@ -17,7 +17,6 @@ use Rattle.state.specs.declared.Note.TheVariants.{Done, CrcRefused, CrcWrong, Re
 use Rattle.state.specs.declared.Phase.TheVariants.{Idle, Answering}
 use Rattle.state.specs.declared.Reply.{Reply}
 use Rattle.state.specs.declared.Reply.TheVariants.{Data, Registers}
-use Rattle.state.specs.declared.Store.TheVariants.{Keep}
 use Rattle.plan.specs.Plan.{no_answer, plain}
 use Rattle.forwards.specs.Forward.{wish, guard, faulted}
 use Rattle.forwards.specs.declared.Granted.{Granted}
@@ -31,7 +30,7 @@ closed b c d r n = record {
   phase = Idle;
   held = b.frame.held;
   control = c;
-  store = Keep;
+  store = None;
   deed = d;
   receive = r;
   note = n;
@@ -49,7 +48,7 @@ wrong_crc b crc mine =
 unfoldable pub forward_closed : Bridge → Bool → ℕ → ℕ → Bool → Bool → Plan
 forward_closed b crc words ends reads blocked =
     granted_closed (guard blocked b.sending.tx.count b.sending.queue
-    (wish Keep (crc && not (eqb words 0 && eqb ends 0)) (new_place words ends reads)))
+    (wish None (crc && not (eqb words 0 && eqb ends 0)) (new_place words ends reads)))
   where
     granted_closed : Granted → Plan
     granted_closed g = closed b (faulted b.control g.note) g.deed LeaveRx g.note

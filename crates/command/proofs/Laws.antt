@@ -1,16 +1,17 @@
 -- Laws of the decision by number, as the proof of `decode` asks them. Assumes nothing.
 use mathlib.Core.Path.{◌≡◌, refl, sym, ◌∙◌, ap}
-use mathlib.Core.Bool.{true, false}
+use mathlib.Core.Bool.{Bool, true, false}
 use Prim.Native.Nat.{ℕ, zero, suc, ◌+◌, ◌/◌, ◌%◌, ◌≤◌, ◌<◌}
 use native.Mathlib.Omega.{arith}
+use lib.Dec.{leb}
 use lib.ListN.{get_or-eq_default}
 use Rattle.base.specs.Pick.{pick, pick_lt, pick_le, pick_not_lt, pick_not_le, pick_ne}
 use Rattle.command.specs.declared.Command.{Command}
-use Rattle.command.specs.declared.Command.TheVariants.{Filler, Malformed, Forward, DataRead}
+use Rattle.command.specs.declared.Command.TheVariants.{Filler, Malformed, Forward, DataRead, RegisterWrite, RegisterRead}
 use Rattle.layout.specs.declared.Layout.{Layout}
 use Rattle.layout.specs.declared.Layout.TheVariants.{Ours, Makers}
 use Rattle.command.specs.declared.Fields.{Fields}
-use Rattle.command.specs.Layout.{fields_of, write, write_ends, read_ends, data_read, register_write, register_read, soft_reset, rows, by_number, decode_by}
+use Rattle.command.specs.Layout.{fields_of, write, write_ends, read_ends, data_read, spans, register_write, register_read, soft_reset, rows, by_number, decode_by}
 
 -- an arm of the layout
 pub to_fields : (k n : Layout) (low : ℕ) (f : Fields) → k ≡ n → f ≡ fields_of n low → f ≡ fields_of k low
@@ -24,6 +25,34 @@ five Makers w = omega arith
 
 pub words_fit : (k : Layout) (w : ℕ) (f : Fields) → f ≡ fields_of k (w % 4096) → f.words + 1 < 65536
 words_fit k w f e = rw e (let h = five k w in omega (arith, h))
+
+-- a span by its two tests
+pub to_span : (f : Fields) (a n : ℕ) → f.zeros ≡ true → a ≡ f.address → n ≡ f.count → leb (a + n) 12 ≡ spans f
+unfolding spans
+to_span f a n z e g = rw (z, e, g) refl
+
+pub no_span : (f : Fields) → f.zeros ≡ false → f.zeros ≡ spans f
+unfolding spans
+no_span f z = rw z refl
+
+-- a command of the registers, by its span and by its way
+module _ (crc reads : Bool) (f : Fields) where
+  pub no_register : spans f ≡ false → Malformed ≡ pick reads (register_read crc f) (register_write crc f)
+  unfolding register_read register_write pick
+  no_register e = rw e (go reads)
+    where
+      go : (r : Bool) → Malformed ≡ pick r Malformed Malformed
+      go true = refl
+      go false = refl
+
+  pub to_register_of_read : spans f ≡ true → reads ≡ true → RegisterRead crc f.address f.count ≡ pick reads (register_read crc f) (register_write crc f)
+  unfolding register_read register_write pick
+  to_register_of_read e r = rw (r, e) refl
+
+  pub to_register_of_write : spans f ≡ true → reads ≡ false
+      → RegisterWrite crc f.address f.count ≡ pick reads (register_read crc f) (register_write crc f)
+  unfolding register_read register_write pick
+  to_register_of_write e r = rw (r, e) refl
 
 -- 0xFFFF is filler in every layout
 pub to_filler : (k : Layout) (w : ℕ) → w ≡ 65535 → Filler ≡ decode_by k w
@@ -81,20 +110,20 @@ module _ (k : Layout) (w : ℕ) (f : Fields) (e : f ≡ fields_of k (w % 4096)) 
   unfolding by_number rows
   to_read_ends h l q = to_number k w 7 x (omega arith) (omega arith) (q ∙ ap (read_ends false) e)
 
-  pub to_register_write_crc : 0xA000 ≤ w → w < 0xB000 → x ≡ register_write true f → x ≡ decode_by k w
-  unfolding by_number rows
+  pub to_register_write_crc : 0xA000 ≤ w → w < 0xB000 → x ≡ pick false (register_read true f) (register_write true f) → x ≡ decode_by k w
+  unfolding by_number rows pick
   to_register_write_crc h l q = to_number k w 10 x (omega arith) (omega arith) (q ∙ ap (register_write true) e)
 
-  pub to_register_write : 0xB000 ≤ w → w < 0xC000 → x ≡ register_write false f → x ≡ decode_by k w
-  unfolding by_number rows
+  pub to_register_write : 0xB000 ≤ w → w < 0xC000 → x ≡ pick false (register_read false f) (register_write false f) → x ≡ decode_by k w
+  unfolding by_number rows pick
   to_register_write h l q = to_number k w 11 x (omega arith) (omega arith) (q ∙ ap (register_write false) e)
 
-  pub to_register_read_crc : 0xC000 ≤ w → w < 0xD000 → x ≡ register_read true f → x ≡ decode_by k w
-  unfolding by_number rows
+  pub to_register_read_crc : 0xC000 ≤ w → w < 0xD000 → x ≡ pick true (register_read true f) (register_write true f) → x ≡ decode_by k w
+  unfolding by_number rows pick
   to_register_read_crc h l q = to_number k w 12 x (omega arith) (omega arith) (q ∙ ap (register_read true) e)
 
-  pub to_register_read : 0xD000 ≤ w → w < 0xE000 → x ≡ register_read false f → x ≡ decode_by k w
-  unfolding by_number rows
+  pub to_register_read : 0xD000 ≤ w → w < 0xE000 → x ≡ pick true (register_read false f) (register_write false f) → x ≡ decode_by k w
+  unfolding by_number rows pick
   to_register_read h l q = to_number k w 13 x (omega arith) (omega arith) (q ∙ ap (register_read false) e)
 
   pub to_soft_reset : 0xE000 ≤ w → w < 0xF000 → x ≡ soft_reset f → x ≡ decode_by k w

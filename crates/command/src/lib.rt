@@ -3,6 +3,7 @@
 #![tactic(auto)]
 
 ghost use Rattle.std.specs.Prelude.{◌≡◌};
+ghost use Rattle.base.specs.Pick.{pick};
 ghost use Rattle.command.specs.Layout.{fields_of, spans as spans_of, register_write, register_read, soft_reset, decode_by};
 ghost use Rattle.command.specs.Layouts.{start_by};
 
@@ -72,67 +73,61 @@ fn fields_of(layout: Layout, low: u16) -> Fields
     }
 }
 
+// Stays: a row of `decode` is one line so, where a literal of named fields takes six.
 fn forward(crc: bool, words: u16, ends: u16, reads: bool) -> Command
     ensures { result ≡ Command.Forward crc words ends reads }
 {
     Command::Forward {
-        crc: crc,
-        words: words,
-        ends: ends,
-        reads: reads,
+        crc,
+        words,
+        ends,
+        reads,
     }
 }
 
+// Stays: as `forward`.
 fn data_read(crc: bool, words: u16) -> Command
     ensures { result ≡ Command.DataRead crc words }
 {
-    Command::DataRead {
-        crc: crc,
-        words: words,
-    }
+    Command::DataRead { crc, words }
 }
 
 // Numbers 10 to 13: registers that exist, from an address on.
 fn spans(f: Fields) -> bool
     ensures { result ≡ spans_of f }
 {
-    let within = f.address as u32 + f.count as u32 <= 12;
-    f.zeros & within
+    f.zeros && u32::from(f.address) + u32::from(f.count) <= 12
 }
 
-fn register_write(crc: bool, f: Fields) -> Command
-    ensures { result ≡ register_write crc f }
+fn register(crc: bool, f: Fields, reads: bool) -> Command
+    ensures { result ≡ pick reads (register_read crc f) (register_write crc f) }
 {
-    if spans(f) {
-        return Command::RegisterWrite {
-            crc: crc,
-            address: f.address,
-            count: f.count,
-        };
+    let Fields { address, count, .. } = f;
+    if !spans(f) {
+        Command::Malformed
+    } else if reads {
+        Command::RegisterRead {
+            crc,
+            address,
+            count,
+        }
+    } else {
+        Command::RegisterWrite {
+            crc,
+            address,
+            count,
+        }
     }
-    Command::Malformed
-}
-
-fn register_read(crc: bool, f: Fields) -> Command
-    ensures { result ≡ register_read crc f }
-{
-    if spans(f) {
-        return Command::RegisterRead {
-            crc: crc,
-            address: f.address,
-            count: f.count,
-        };
-    }
-    Command::Malformed
 }
 
 fn soft_reset(f: Fields) -> Command
     ensures { result ≡ soft_reset f }
 {
     if f.reset {
-        return Command::SoftReset;
+        Command::SoftReset
+    } else {
+        Command::Malformed
     }
-    Command::Malformed
 }
 
 // One decision by number: thirteen commands, filler, and every other word malformed.
@@ -150,10 +145,10 @@ pub fn decode(layout: Layout, word: u16) -> Command
         0x7000..=0x7FFF => forward(false, f.words + 1, f.ends, true),
         0x8000..=0x80FF => data_read(true, low + 1),
         0x9000..=0x90FF => data_read(false, low + 1),
-        0xA000..=0xAFFF => register_write(true, f),
-        0xB000..=0xBFFF => register_write(false, f),
-        0xC000..=0xCFFF => register_read(true, f),
-        0xD000..=0xDFFF => register_read(false, f),
+        0xA000..=0xAFFF => register(true, f, false),
+        0xB000..=0xBFFF => register(false, f, false),
+        0xC000..=0xCFFF => register(true, f, true),
+        0xD000..=0xDFFF => register(false, f, true),
         0xE000..=0xEFFF => soft_reset(f),
         0xFFFF => Command::Filler,
         _ => Command::Malformed,
@@ -164,8 +159,5 @@ pub fn decode(layout: Layout, word: u16) -> Command
 pub fn crc_start(xmodem: bool) -> u16
     ensures { result ≡ start_by xmodem }
 {
-    if xmodem {
-        return 0;
-    }
-    crc16::START
+    if xmodem { 0 } else { crc16::START }
 }

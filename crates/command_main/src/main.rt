@@ -8,106 +8,97 @@
 
 #![tactic(auto)]
 
-ghost use Rattle.std.specs.Prelude.{◌<◌};
-
 use command::Command;
 use layout::Layout;
 use std::io;
 
-fn mix(digest: u64, field: u16) -> u64 {
-    (digest % 4294967291 * 65599 + field as u64 + 1) % 4294967291
-}
+const PRIME: u64 = 4294967291;
 
-fn bit(flag: bool) -> u16 {
-    if flag { 1 } else { 0 }
-}
-
-fn mix_kind(digest: u64, kind: u16, crc: bool) -> u64 {
-    mix(mix(digest, kind), bit(crc))
+fn mixed(digest: u64, row: &[u16]) -> u64 {
+    row.iter().fold(digest, |digest, n| {
+        (digest % PRIME * 65599 + u64::from(*n) + 1) % PRIME
+    })
 }
 
 fn mix_command(digest: u64, asked: Command) -> u64 {
     match asked {
-        Command::Filler => mix(digest, 0),
-        Command::Malformed => mix(digest, 1),
+        Command::Filler => mixed(digest, &[0]),
+        Command::Malformed => mixed(digest, &[1]),
         Command::Forward {
             crc,
             words,
             ends,
             reads,
-        } => mix(mix(mix(mix_kind(digest, 2, crc), words), ends), bit(reads)),
-        Command::DataRead { crc, words } => mix(mix_kind(digest, 3, crc), words),
+        } => mixed(digest, &[2, u16::from(crc), words, ends, u16::from(reads)]),
+        Command::DataRead { crc, words } => mixed(digest, &[3, u16::from(crc), words]),
         Command::RegisterWrite {
             crc,
             address,
             count,
-        } => mix(mix(mix_kind(digest, 4, crc), address), count),
+        } => mixed(digest, &[4, u16::from(crc), address, count]),
         Command::RegisterRead {
             crc,
             address,
             count,
-        } => mix(mix(mix_kind(digest, 5, crc), address), count),
-        Command::SoftReset => mix(digest, 6),
+        } => mixed(digest, &[5, u16::from(crc), address, count]),
+        Command::SoftReset => mixed(digest, &[6]),
     }
 }
 
-// The place of a command's count, in the order in which `print_counts` names them.
-fn place(asked: Command) -> usize
-    ensures { result < 13 }
-{
-    match asked {
-        Command::Filler => 0,
-        Command::Malformed => 1,
-        Command::Forward {
-            crc,
-            words: _,
-            ends: _,
-            reads,
-        } => if reads {
-            by_crc(4, crc)
-        } else {
-            by_crc(2, crc)
-        },
-        Command::DataRead { crc, words: _ } => by_crc(6, crc),
-        Command::RegisterWrite {
-            crc,
-            address: _,
-            count: _,
-        } => by_crc(8, crc),
-        Command::RegisterRead {
-            crc,
-            address: _,
-            count: _,
-        } => by_crc(10, crc),
-        Command::SoftReset => 12,
+// What is counted apart, in the order in which it is printed: a command that carries a CRC apart from the plain one.
+#[derive(Clone, Copy)]
+enum Kind {
+    Filler,
+    Malformed,
+    ForwardWriteCrc,
+    ForwardWritePlain,
+    ForwardReadsCrc,
+    ForwardReadsPlain,
+    DataReadCrc,
+    DataReadPlain,
+    RegisterWriteCrc,
+    RegisterWritePlain,
+    RegisterReadCrc,
+    RegisterReadPlain,
+    SoftReset,
+}
+
+const NAMES: [&str; 13] = [
+    "filler",
+    "malformed",
+    "forward write crc",
+    "forward write plain",
+    "forward reads crc",
+    "forward reads plain",
+    "data read crc",
+    "data read plain",
+    "register write crc",
+    "register write plain",
+    "register read crc",
+    "register read plain",
+    "soft reset",
+];
+
+impl From<Command> for Kind {
+    fn from(asked: Command) -> Self {
+        match asked {
+            Command::Filler => Kind::Filler,
+            Command::Malformed => Kind::Malformed,
+            Command::Forward { crc, reads, .. } => match (reads, crc) {
+                (false, true) => Kind::ForwardWriteCrc,
+                (false, false) => Kind::ForwardWritePlain,
+                (true, true) => Kind::ForwardReadsCrc,
+                (true, false) => Kind::ForwardReadsPlain,
+            },
+            Command::DataRead { crc: true, .. } => Kind::DataReadCrc,
+            Command::DataRead { .. } => Kind::DataReadPlain,
+            Command::RegisterWrite { crc: true, .. } => Kind::RegisterWriteCrc,
+            Command::RegisterWrite { .. } => Kind::RegisterWritePlain,
+            Command::RegisterRead { crc: true, .. } => Kind::RegisterReadCrc,
+            Command::RegisterRead { .. } => Kind::RegisterReadPlain,
+            Command::SoftReset => Kind::SoftReset,
+        }
     }
-}
-
-fn by_crc(first: usize, crc: bool) -> usize
-    requires { first < 11 }
-    ensures { result < 13 }
-{
-    if crc { first } else { first + 1 }
-}
-
-fn print_count(rt: &impl Print, name: &str, count: u32) -> io::Result<()> {
-    println!(rt; "{name} {count}")
-}
-
-fn print_counts(rt: &impl Print, counts: [u32; 13]) -> io::Result<()> {
-    print_count(rt, "filler", counts[0])?;
-    print_count(rt, "malformed", counts[1])?;
-    print_count(rt, "forward write crc", counts[2])?;
-    print_count(rt, "forward write plain", counts[3])?;
-    print_count(rt, "forward reads crc", counts[4])?;
-    print_count(rt, "forward reads plain", counts[5])?;
-    print_count(rt, "data read crc", counts[6])?;
-    print_count(rt, "data read plain", counts[7])?;
-    print_count(rt, "register write crc", counts[8])?;
-    print_count(rt, "register write plain", counts[9])?;
-    print_count(rt, "register read crc", counts[10])?;
-    print_count(rt, "register read plain", counts[11])?;
-    print_count(rt, "soft reset", counts[12])
 }
 
 // After a number's last word its line; the next number begins anew.
@@ -121,14 +112,17 @@ fn close_number(rt: &impl Print, word: u16, digest: u64) -> io::Result<u64> {
 
 fn walk(rt: &impl Print, layout: Layout) -> io::Result<()> {
     let mut counts = [0u32; 13];
-    let mut digest: u64 = 0;
-    for word in 0..=65535u16 {
+    let mut digest = 0;
+    for word in 0..=65535 {
         let asked = command::decode(layout, word);
-        let at = place(asked);
-        counts[at] = std::num::wrapping_add_u32(counts[at], 1);
+        let count = &mut counts[Kind::from(asked) as usize];
+        *count = count.wrapping_add(1);
         digest = close_number(rt, word, mix_command(digest, asked))?;
     }
-    print_counts(rt, counts)
+    for (name, count) in NAMES.iter().zip(counts.iter()) {
+        println!(rt; "{name} {count}")?;
+    }
+    Ok(())
 }
 
 fn main(rt: HostRuntime) -> io::Result<()> {

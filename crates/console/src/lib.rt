@@ -10,7 +10,7 @@ ghost use Rattle.console.specs.Lengths.{IsPrefixLength};
 use std::alloc::Global;
 use std::env::{Env, FillError};
 use std::fs::File;
-use std::io::{ErrorKind, Print, Read};
+use std::io::{ErrorKind, Print, Read, Stdin};
 use std::rt::Files;
 use std::{io, str};
 
@@ -66,6 +66,38 @@ pub fn fail(output: &impl Print, alloc: Global, what: &[u8], error: &io::Error) 
     let reason = reason(text.as_str());
     output.write_all(what)?;
     println!(output; ": {reason}")
+}
+
+// What a program reads.
+#[derive(Drop)]
+pub enum Input {
+    File(File),
+    Stdin(Stdin),
+}
+
+impl Read for Input {
+    fn read(&mut self, buf: &mut [u8]) -> io::Result<usize> {
+        match self {
+            Input::File(file) => file.read(buf),
+            Input::Stdin(stdin) => stdin.read(buf),
+        }
+    }
+}
+
+// Runs `run` on the file that the first argument names, or on standard input where there is none. That a file cannot be opened is said on standard
+// error.
+pub fn with_input<F: FnOnce(Input) -> io::Result<()>>(rt: &HostRuntime, run: F) -> io::Result<()>
+    requires { F.IsAlwaysCallable run }
+{
+    let mut path = [0; 4096];
+    let Some(length) = argument(rt, 1, &mut path) else {
+        return run(Input::Stdin(rt.stdin()));
+    };
+    let name = &path[..length];
+    match open(rt, name) {
+        Ok(file) => run(Input::File(file)),
+        Err(error) => fail(&rt.stderr(), rt.alloc(), name, &error),
+    }
 }
 
 #[cfg(test)]

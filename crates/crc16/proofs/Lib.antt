@@ -4,4 +4,5 @@ mod Steps
 pub mod Laws
 pub mod Pieces
 mod Nibbles
+pub mod Bytes
 mod Examples

@@ -27,6 +27,10 @@ unfoldable pub crc_bits : ℕ → List Bool → ℕ
 crc_bits c [] = c
 crc_bits c (b ∷ bs) = crc_bits (crc_bit c b) bs
 
+-- a byte, high bit first
+unfoldable pub crc_byte : ℕ → ℕ → ℕ
+crc_byte c b = crc_bits c (high_first 8 b)
+
 -- a word, high bit first
 unfoldable pub crc_word : ℕ → ℕ → ℕ
 crc_word c w = crc_bits c (high_first word_length w)

@@ -4,7 +4,7 @@
 #![tactic(auto)]
 
 ghost use Rattle.std.specs.Prelude.{◌≡◌, ◌/◌, ◌%◌, ◌<◌};
-ghost use Rattle.crc16.specs.Crc.{crc_word, crc_of};
+ghost use Rattle.crc16.specs.Crc.{crc_byte, crc_word, crc_from, crc_of};
 ghost use Rattle.crc16.specs.Tables.{entry_of, fed};
 
 // Where the CRC starts (01 Frames).
@@ -45,29 +45,58 @@ fn crc_nibble(crc: u16, nibble: u8) -> u16
     (crc % 4096 * 16) ^ step
 }
 
-// A byte, high nibble first: two lookups.
-fn crc_byte(crc: u16, b: u8) -> u16
-    ensures { result ≡ fed 4 (fed 4 crc (b / 16)) (b % 16) }
-{
-    crc_nibble(crc_nibble(crc, b / 16), b % 16)
+// What a table gives: a byte by its lookups. Words and lists are by bytes, whichever table it is.
+pub trait Table {
+    // A byte, high bit first.
+    fn byte(crc: u16, b: u8) -> u16
+        ensures { result ≡ crc_byte crc b };
+
+    // A word, high byte first.
+    fn word(crc: u16, word: u16) -> u16
+        ensures { result ≡ crc_word crc word }
+    {
+        Self::byte(Self::byte(crc, (word / 256) as u8), (word % 256) as u8)
+    }
+
+    // Words, from a CRC so far.
+    fn words(start: u16, words: &[u16]) -> u16
+        ensures { result ≡ crc_from start words.now }
+    {
+        let mut crc = start;
+        for &word in words {
+            crc = Self::word(crc, word);
+        }
+        crc
+    }
+}
+
+// The table of sixteen entries (02 item 5).
+struct Sixteen;
+
+impl Table for Sixteen {
+    // High nibble first: two lookups.
+    fn byte(crc: u16, b: u8) -> u16 {
+        crc_nibble(crc_nibble(crc, b / 16), b % 16)
+    }
 }
 
 // A word, high byte first.
 pub fn crc_word(crc: u16, word: u16) -> u16
     ensures { result ≡ crc_word crc word }
 {
-    crc_byte(crc_byte(crc, (word / 256) as u8), (word % 256) as u8)
+    Sixteen::word(crc, word)
+}
+
+// A list of words, from a CRC so far.
+pub fn crc_from(start: u16, words: &[u16]) -> u16
+    ensures { result ≡ crc_from start words.now }
+{
+    Sixteen::words(start, words)
 }
 
 // A list of words.
 pub fn crc_list(words: &[u16]) -> u16
     ensures { result ≡ crc_of words.now }
 {
-    let mut crc = START;
-    let mut i: usize = 0;
-    while i < words.len() {
-        crc = crc_word(crc, words[i]);
-        i = i + 1;
-    }
-    crc
+    crc_from(START, words)
 }

@@ -3,75 +3,58 @@
 
 #![tactic(auto)]
 
+ghost use Rattle.std.specs.Prelude.{◌<◌};
+
 use std::io;
 
-fn mixed(digest: u32, byte: u8) -> u32 {
-    digest ^ byte as u32
-}
-
-// One byte into a 32-bit FNV-1a digest.
-fn fed(digest: u32, byte: u8) -> u32 {
-    (mixed(digest, byte) as u64 * 16777619 % 4294967296) as u32
-}
-
-// Both bytes of a CRC, the high byte first.
-fn fed_crc(digest: u32, crc: u16) -> u32 {
-    let half = fed(digest, (crc / 256) as u8);
-    fed(half, (crc % 256) as u8)
-}
-
-// The CRC by the one table or by the other.
-fn crc_of(words: &[u16], wide: bool) -> u16 {
-    if wide {
-        return crc16_wide::crc_list(words);
-    }
-    crc16::crc_list(words)
+// Both bytes of a CRC, the high byte first, into a 32-bit FNV-1a digest.
+fn fed(digest: u32, crc: u16) -> u32 {
+    let feed = |digest: u32, byte: u8| (digest ^ u32::from(byte)).wrapping_mul(16777619);
+    let [high, low] = crc.to_be_bytes();
+    feed(feed(digest, high), low)
 }
 
 // The digest over the CRCs of the one-word lists whose word has this high byte.
-fn block(high: u8, wide: bool) -> u32 {
-    let mut digest: u32 = 2166136261;
-    for low in 0..256u16 {
-        let words = [high as u16 * 256 + low];
-        digest = fed_crc(digest, crc_of(&words, wide));
+fn block<F: Fn(&[u16]) -> u16>(high: u8, crc_list: F) -> u32
+    requires { F.IsAlwaysCallable crc_list }
+{
+    let mut digest = 2166136261;
+    for low in 0..=255 {
+        let word = u16::from_be_bytes([high, low]);
+        digest = fed(digest, crc_list(&[word]));
     }
     digest
 }
 
-// A linear congruential generator; its high half is the word.
-fn next(seed: u32) -> u32 {
-    ((seed as u64 * 1664525 + 1013904223) % 4294967296) as u32
-}
-
+// A linear congruential generator, from this seed; the high half of its state is the word.
 fn fill(words: &mut [u16], seed: u32) {
     let mut state = seed;
-    for i in 0..words.len() {
-        state = next(state);
-        words[i] = (state / 65536) as u16;
+    for word in words.iter_mut() {
+        state = state.wrapping_mul(1664525).wrapping_add(1013904223);
+        *word = (state >> 16) as u16;
     }
 }
 
 // The CRC of the first 8 * n words that the generator gives from the seed n.
-fn list(n: u16, wide: bool) -> u16 {
-    let mut words = [0u16; 4088];
-    fill(&mut words, n as u32);
-    let count = n as usize * 8;
-    if 4088 < count {
-        return 0;
-    }
-    crc_of(&words[0..count], wide)
-}
-
-fn line(rt: &impl Print, narrow: u64, wide: u64, width: usize) -> io::Result<()> {
-    println!(rt; "{narrow:0width$x} {wide:0width$x}")
+fn list<F: Fn(&[u16]) -> u16>(n: u16, crc_list: F) -> u16
+    requires bound { n < 512 }
+    requires callable { F.IsAlwaysCallable crc_list }
+{
+    let mut words = [0; 4088];
+    fill(&mut words, u32::from(n));
+    crc_list(&words[..usize::from(n) * 8])
 }
 
 fn main(rt: HostRuntime) -> io::Result<()> {
-    for high in 0..=255u8 {
-        line(&rt, block(high, false) as u64, block(high, true) as u64, 8)?;
+    for high in 0..=255 {
+        let narrow = block(high, crc16::crc_list);
+        let wide = block(high, crc16_wide::crc_list);
+        println!(rt; "{narrow:08x} {wide:08x}")?;
     }
-    for n in 0..512u16 {
-        line(&rt, list(n, false) as u64, list(n, true) as u64, 4)?;
+    for n in 0..512 {
+        let narrow = list(n, crc16::crc_list);
+        let wide = list(n, crc16_wide::crc_list);
+        println!(rt; "{narrow:04x} {wide:04x}")?;
     }
     Ok(())
 }

@@ -5,7 +5,9 @@
 
 ghost use Rattle.std.specs.Prelude.{◌≡◌, true};
 ghost use Rattle.crc16.specs.Crc.{crc_word, crc_of};
-ghost use Rattle.crc16.specs.Tables.{entry_of, fed};
+ghost use Rattle.crc16.specs.Tables.{entry_of};
+
+use crc16::Table;
 
 const STEPS: [u16; 256] = [
     0x0000, 0x1021, 0x2042, 0x3063, 0x4084, 0x50A5, 0x60C6, 0x70E7, 0x8108, 0x9129, 0xA14A, 0xB16B,
@@ -39,32 +41,30 @@ fn entry(k: u8) -> u16
     STEPS[k as usize]
 }
 
-// Eight bits go to the top of the CRC and are shifted out.
-fn crc_byte(crc: u16, b: u8) -> u16
-    ensures { result ≡ fed 8 crc b }
-{
-    let step = entry((crc / 256) as u8 ^ b);
-    (crc % 256 * 256) ^ step
+// The table of 256 entries (01 Frames).
+struct Wide;
+
+impl Table for Wide {
+    // Eight bits go to the top of the CRC and are shifted out: one lookup.
+    // Stays: with the bits of a lookup as a parameter, shared with `crc16::crc_nibble`, 256 would be `1 << (16 - BITS)`, and no plainer.
+    fn byte(crc: u16, b: u8) -> u16 {
+        let step = entry((crc / 256) as u8 ^ b);
+        (crc % 256 * 256) ^ step
+    }
 }
 
 // A word, high byte first.
 pub fn crc_word(crc: u16, word: u16) -> u16
     ensures { result ≡ crc_word crc word }
 {
-    crc_byte(crc_byte(crc, (word / 256) as u8), (word % 256) as u8)
+    Wide::word(crc, word)
 }
 
 // A list of words.
 pub fn crc_list(words: &[u16]) -> u16
     ensures { result ≡ crc_of words.now }
 {
-    let mut crc = crc16::START;
-    let mut i: usize = 0;
-    while i < words.len() {
-        crc = crc_word(crc, words[i]);
-        i = i + 1;
-    }
-    crc
+    Wide::words(crc16::START, words)
 }
 
 // Both routines give one CRC, for every CRC so far and every word (02 item 5, "shown equal on every word"). What is promised is `true`; what is compared

@@ -1,4 +1,5 @@
 -- Laws of the definitions, in the form in which the functions' proofs ask them. Assumes nothing.
+use Rattle.std.specs.Prelude.{Option}
 use mathlib.Core.Path.{◌≡◌, refl, subst}
 use mathlib.Core.Bool.{Bool, ◌&&◌}
 use Prim.Native.Nat.{ℕ, ◌+◌, ◌≤◌, ◌<◌}
@@ -11,13 +12,12 @@ use Rattle.state.specs.Sending.{owing, stored, done}
 use Rattle.state.specs.Facts.{Doable}
 use Rattle.state.specs.declared.Place.{Place}
 use Rattle.state.specs.declared.Sending.{Sending}
-use Rattle.state.specs.declared.Store.{Store}
 use Rattle.state.specs.declared.Deed.{Deed}
 use Rattle.state.specs.declared.Deed.TheVariants.{Enqueue, TakeBack, ClearAll, ResetAll}
 use Rattle.queue.proofs.Laws.{has_record}
 
 -- an arm knows the constructor
-pub to_stored : (s : Sending) (e v : Store) (x : Sending) → v ≡ e → x ≡ stored s e → x ≡ stored s v
+pub to_stored : (s : Sending) (e v : Option ℕ) (x : Sending) → v ≡ e → x ≡ stored s e → x ≡ stored s v
 to_stored s e v x h f = rw h f
 
 pub to_done : (s : Sending) (e v : Deed) (x : Sending) → v ≡ e → x ≡ done s e → x ≡ done s v

@@ -8,33 +8,28 @@ ghost use Rattle.state.specs.Sending.{idle, stored as stored_of, done as done_of
 ghost use Rattle.state.specs.declared.Deed.TheVariants.{ResetAll};
 
 use line::Piece;
-use state::{Deed, Sender, Sending, Store};
+use state::{Deed, Sender, Sending};
 
 // Nothing under way and nothing owed: "An owed END counts as sending".
 pub fn is_idle(sender: Sender) -> bool
     ensures { result ≡ idle sender }
 {
-    let piece = sender.piece;
-    let gone = line::piece_length(piece) <= sender.gone;
+    let gone = line::piece_length(sender.piece) <= sender.gone;
     let taken = sender.left == 0;
     let ended = sender.ends == 0;
     gone & taken & ended
 }
 
 // TX's ring after what an event stores.
-pub fn stored(sending: Sending, store: Store) -> Sending
+pub fn stored(sending: Sending, store: Option<u16>) -> Sending
     requires { SendFit sending }
     ensures { result ≡ stored_of sending store }
 {
-    match store {
-        Store::Keep => sending,
-        Store::Put(_) => {
-            let more = sending.tx.count + 1;
-            let mut after = sending;
-            after.tx.count = more;
-            after
-        }
+    let mut after = sending;
+    if let Some(_) = store {
+        after.tx.count += 1;
     }
+    after
 }
 
 // TX and the queue emptied: "Clearing sets count to 0".
@@ -56,30 +51,24 @@ pub fn done(sending: Sending, deed: Deed) -> Sending
         Deed::Leave => sending,
         Deed::Enqueue(place) => {
             let mut queue = sending.queue;
-            let last = queue.used;
-            queue.places[last as usize] = place;
-            queue.used = last + 1;
-            let mut after = sending;
-            after.queue = queue;
-            after
+            queue.places[queue.used as usize] = place;
+            queue.used += 1;
+            Sending { queue, ..sending }
         }
         Deed::TakeBack(n) => {
-            let left = sending.tx.count - n;
             let mut after = sending;
-            after.tx.count = left;
+            after.tx.count -= n;
             after
         }
-        Deed::ClearAll => {
-            let owing = Sender {
+        Deed::ClearAll => Sending {
+            sender: Sender {
                 piece: Piece::Pause,
                 gone: 0,
                 left: 0,
                 ends: 1,
-            };
-            let mut after = cleared(sending);
-            after.sender = owing;
-            after
-        }
+            },
+            ..cleared(sending)
+        },
         Deed::ResetAll => cleared(sending),
     }
 }

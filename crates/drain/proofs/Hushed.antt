@@ -1,8 +1,9 @@
 -- Laws of a run of ticks inside a piece, as the functions' proofs ask them. Assumes nothing.
+use Rattle.std.specs.Prelude.{Option, None, Some}
 use mathlib.Core.Path.{◌≡◌, refl, sym, ◌∙◌, ap, subst}
 use mathlib.Core.Bool.{Bool, true, false}
 use mathlib.Core.List.{List}
-use Prim.Native.Nat.{ℕ, suc, ◌+◌, ◌-◌, ◌<◌}
+use Prim.Native.Nat.{ℕ, suc, ◌+◌, ◌-◌, ◌<◌, ◌≤◌}
 use native.Mathlib.Omega.{arith}
 use lib.Dec.{ltb}
 use borrow.Author.Tests.{lt-ltb, le-ltb, lt-leb, ltb-true}
@@ -19,8 +20,7 @@ use Rattle.bridge.specs.Fit.{Fit, Kept}
 use Rattle.bridge.proofs.Keeping.{turn_keeps}
 use Rattle.lull.specs.Lull.{hot_of, reach, quiet_by, next_hot, laid_sender, laid, laid_by, quiet_answer}
 use Rattle.lull.specs.declared.Hot.{Hot}
-use Rattle.lull.specs.declared.Quiet.{Quiet}
-use Rattle.lull.proofs.Ticks.{reach_within, gone_within, quiet_turn}
+use Rattle.lull.proofs.Ticks.{reach_within, gone_within, quiet_turn, was_quiet}
 use Rattle.drain.specs.Drain.{at_rest, tick_on, run_of}
 use Rattle.drain.specs.Hush.{Hush}
 use Rattle.drain.proofs.Laws.{after, Inv}
@@ -93,11 +93,15 @@ module _ (budget : ℕ) (b : Bridge) (from ticks : ℕ) (h : Hot) (v : Hush budg
       gone = gone_within false none h.gone b.sending.sender q;
     }
 
-  pub hush_more : (n : ℕ) → n ≡ reach b.sending.sender → (q : Quiet)
-      → q ≡ record { passes = quiet_by h n false true; hot = next_hot h false true } → q.passes ≡ true → Hush budget b from (ticks + 1) q.hot
-  hush_more n f q e p =
-      let y : quiet_by h n false true ≡ true = sym (ap (λ (x : Quiet). x.passes) e) ∙ p in
-      rw e (more (subst (λ (m : ℕ). quiet_by h m false true ≡ true) f y))
+  pub hush_more : (n : ℕ) → n ≡ reach b.sending.sender → (q : Option Hot) (g : Hot)
+      → q ≡ pick (quiet_by h n false true) (Some (next_hot h false true)) None → q ≡ Some g → Hush budget b from (ticks + 1) g
+  hush_more n f q g e p =
+      let w = was_quiet (quiet_by h n false true) (next_hot h false true) g (sym e ∙ p) in
+      rw w.1 (more (subst (λ (m : ℕ). quiet_by h m false true ≡ true) f w.0))
+
+-- every tick of the budget was made
+pub hush_end : (budget : ℕ) (b : Bridge) (from ticks : ℕ) (h : Hot) → Hush budget b from ticks h → budget ≤ ticks → Hush budget b from budget h
+hush_end budget b from ticks h v l = let z : ticks ≡ budget = omega (arith, v.most) in subst (λ (n : ℕ). Hush budget b from n h) z v
 
 module _ (budget : ℕ) (b₀ : Bridge) (tx₀ rx₀ : List ℕ) (ticks : ℕ) (b : Bridge) (tx rx : List ℕ) (v : Inv budget b₀ tx₀ rx₀ ticks b tx rx) where
   pub hushed : (to : ℕ) (h : Hot) → Hush budget b ticks to h → (x : Bridge) → ticks < to → x ≡ laid b false h → Inv budget b₀ tx₀ rx₀ to x tx rx

@@ -12,7 +12,7 @@ use Rattle.command.specs.Layouts.{Layouts}
 use Rattle.line.specs.Format.{piece_length}
 use Rattle.line.specs.Reader.{hear}
 use Rattle.line.specs.declared.Ear.TheVariants.{Quiet}
-use Rattle.registers.specs.Registers.{is_normal, blocking}
+use Rattle.registers.specs.Registers.{blocking}
 use Rattle.registers.specs.Raising.{raised}
 use Rattle.registers.specs.declared.Flags.{Flags}
 use Rattle.state.specs.Frame.{mine_of, to_come}

@@ -13,32 +13,19 @@ pub struct Glide {
     pub hot: Hot,
 }
 
-// Where the first tick is not quiet the count stays `from`, and what was moved is nothing. The record is read in the loop and not before it,
-// since an invariant can only name what its loop reads.
+// Where the first tick is not quiet the count stays `from`, and what was moved is nothing.
 pub fn run(bridge: Bridge, from: u32, budget: u32) -> Glide
     requires host_fit { HostFit bridge }
     requires from_lt_budget { from < budget }
     ensures { Hush budget bridge from result.ticks result.hot }
 {
-    let start = lull::hot_of(bridge);
-    let mut hot = start;
-    let mut ticks = from;
-    while ticks < budget {
-        let next = ticks + 1;
-        let reach = lull::reach(bridge.sending.sender);
-        let quiet = lull::tick(hot, reach, false, true);
-        if quiet.passes {
-            hot = quiet.hot;
-            ticks = next;
-        } else {
-            return Glide {
-                ticks: ticks,
-                hot: hot,
-            };
+    let reach = lull::reach(bridge.sending.sender);
+    let mut hot = lull::hot_of(bridge);
+    for ticks in from..budget {
+        match lull::tick(hot, reach, false, true) {
+            Some(after) => hot = after,
+            None => return Glide { ticks, hot },
         }
     }
-    Glide {
-        ticks: ticks,
-        hot: hot,
-    }
+    Glide { ticks: budget, hot }
 }

@@ -21,7 +21,7 @@ pub struct Drained {
 }
 
 // "the sender is idle and nothing may start"
-fn at_rest(bridge: Bridge) -> bool
+pub fn at_rest(bridge: Bridge) -> bool
     ensures { result ≡ at_rest bridge }
 {
     let idle = deeds::is_idle(bridge.sending.sender);
@@ -38,8 +38,8 @@ fn run(bridge: Bridge, tx: &mut [u16], rx: &mut [u16], budget: u32) -> Drained
 {
     let mut b = bridge;
     let mut ticks: u32 = 0;
+    // Stays: a pass makes one tick or a run of them, so no range counts the passes.
     while ticks < budget {
-        let next = ticks + 1;
         let g = glide::run(b, ticks, budget);
         if ticks < g.ticks {
             b = lull::laid(b, false, g.hot);
@@ -49,25 +49,25 @@ fn run(bridge: Bridge, tx: &mut [u16], rx: &mut [u16], budget: u32) -> Drained
         if at_rest(b) {
             return Drained {
                 state: b,
-                ticks: ticks,
+                ticks,
                 note: Note::Done,
             };
         }
         let answer = events::turn(b, tx, rx, Event::Tick(true));
         let note = answer.note;
         b = answer.state;
-        ticks = next;
+        ticks += 1;
         if state::number(note) != 0 {
             return Drained {
                 state: b,
-                ticks: ticks,
-                note: note,
+                ticks,
+                note,
             };
         }
     }
     Drained {
         state: b,
-        ticks: ticks,
+        ticks,
         note: Note::Done,
     }
 }
@@ -79,7 +79,7 @@ fn refused(bridge: Bridge, note: Note) -> Drained
     Drained {
         state: bridge,
         ticks: 0,
-        note: note,
+        note,
     }
 }
 

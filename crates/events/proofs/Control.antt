@@ -31,7 +31,6 @@ use Rattle.kept.proofs.Control.{settled_control}
 use Rattle.base.specs.Truth.{or_true}
 use Rattle.rules.specs.Facts.{ControlRules}
 use Rattle.frame_rules.specs.Frames.{otp_sound, bad_word_sound, is_unmarked}
-use Rattle.state.specs.Frame.{is_forward}
 use Rattle.events.specs.Events.{powered}
 use Rattle.ticks.specs.Ticks.{blocked_in, with_flags_of, starved_flags, flags_sent, phase_after, control_ticked, tick_ends, tick_hears, ticked}
 use Rattle.clock.specs.Clock.{dog_fires, watch_fires, mode_at, flags_at, control_at, clocked}

@@ -1,4 +1,5 @@
 -- A host word while discarding: "nothing but the watchdog mark changes" (01 Notes, note 4), the whole state compared. Assumes nothing.
+use Rattle.std.specs.Prelude.{None}
 use mathlib.Core.Path.{◌≡◌, refl, sym, ◌∙◌, ap, ap₂}
 use mathlib.Core.Bool.{Bool, true, false, not, ◌&&◌, ◌||◌}
 use Prim.Native.Nat.{ℕ}
@@ -15,7 +16,6 @@ use Rattle.state.specs.declared.Bridge.{Bridge}
 use Rattle.state.specs.declared.Note.TheVariants.{Discarded}
 use Rattle.state.specs.declared.Phase.{Phase}
 use Rattle.state.specs.declared.Phase.TheVariants.{Discarding}
-use Rattle.state.specs.declared.Store.TheVariants.{Keep}
 use Rattle.rules.specs.Facts.{ControlRules}
 use Rattle.frame_rules.specs.Frames.{drdy_sound}
 use Rattle.events.specs.Events.{hosted, reacted}
@@ -46,8 +46,8 @@ only_marked b = record {
   sdo = no_answer;
   sout = true;
   note = Discarded;
-  tx = Keep;
-  rx = Keep;
+  tx = None;
+  rx = None;
 }
 
 -- the same, with another control and in another phase
@@ -63,8 +63,8 @@ marked_in b c p = record {
   sdo = no_answer;
   sout = true;
   note = Discarded;
-  tx = Keep;
-  rx = Keep;
+  tx = None;
+  rx = None;
 }
 
 dropped : (l : Layouts) (b : Bridge) (w x : ℕ)

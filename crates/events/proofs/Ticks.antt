@@ -7,7 +7,6 @@ use lib.ListN.{length}
 use borrow.Author.Tests.{not-true, eq-eqb}
 use Rattle.base.specs.Pick.{pick, and_l, and_r}
 use Rattle.ticks.specs.Ticks.{blocked_in, flags_sent, phase_after, control_ticked, tick_ends, tick_hears, ticked}
-use Rattle.command.specs.declared.Command.{Command}
 use Rattle.command.specs.declared.Command.TheVariants.{Filler, Malformed, Forward, DataRead, RegisterWrite, RegisterRead, SoftReset}
 use Rattle.plan.specs.Plan.{settled}
 use Rattle.line.specs.Reader.{hear}
@@ -17,7 +16,7 @@ use Rattle.rules.specs.Sound.{sound}
 use Rattle.next.specs.Next.{may_start}
 use Rattle.sender.specs.Sender.{tick_sender}
 use Rattle.sender.specs.declared.Sent.{Sent}
-use Rattle.state.specs.Frame.{fwd, progress, is_forward, mine_of, owed_by, to_come, forward_sound, collect_sound, phase_sound}
+use Rattle.state.specs.Frame.{fwd, progress, mine_of, to_come, forward_sound, collect_sound, phase_sound}
 use Rattle.state.specs.declared.Bridge.{Bridge}
 use Rattle.state.specs.declared.Fwd.{Fwd}
 use Rattle.state.specs.declared.Phase.{Phase}

@@ -1,12 +1,11 @@
 -- What each event does (01 What the bridge is; The line). A rule sees the state, the event and the oldest word of each store. Assumes nothing.
-use Rattle.std.specs.Prelude.{Bool, true, ℕ}
+use Rattle.std.specs.Prelude.{Bool, true, ℕ, None}
 use Rattle.base.specs.Pick.{pick}
 use Rattle.command.specs.Layouts.{Layouts}
 use Rattle.layout.specs.declared.Layout.{Layout}
 use Rattle.state.specs.Power.{power_up_in, power_up_bad_in}
 use Rattle.state.specs.declared.Bridge.{Bridge}
 use Rattle.state.specs.declared.Clock.{Clock}
-use Rattle.state.specs.declared.Store.TheVariants.{Keep}
 use Rattle.plan.specs.Plan.{marked, performed}
 use Rattle.host.specs.Frames.{planned}
 use Rattle.release.specs.Release.{released_in}
@@ -23,7 +22,7 @@ powered good layout = pick good (power_up_in layout) (power_up_bad_in layout)
 
 -- a host's plan carried out
 abbrev pub hosted : Layouts → Bridge → Clock → Plan → Did
-hosted l b clock p = record { bridge = performed l b clock p; sdo = p.sdo; sout = true; note = p.note; tx = p.store; rx = Keep }
+hosted l b clock p = record { bridge = performed l b clock p; sdo = p.sdo; sout = true; note = p.note; tx = p.store; rx = None }
 
 -- the event's rule; w and x are the oldest words of TX and RX
 unfoldable pub reacted : Layouts → Bridge → Event → ℕ → ℕ → Did

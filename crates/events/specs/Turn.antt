@@ -1,5 +1,5 @@
 -- One event's rule carried out on the stores (01 What the bridge is). Assumes nothing.
-use Rattle.std.specs.Prelude.{◌≡◌, Bool, true, false, List, ℕ, length}
+use Rattle.std.specs.Prelude.{◌≡◌, true, List, ℕ, length}
 use Rattle.std.proofs.Common.{sym, ◌∙◌, ap}
 use Rattle.command.specs.Layouts.{Layouts}
 use Rattle.state.specs.Rings.{tx_size, rx_size, oldest, written}

@@ -11,7 +11,7 @@ ghost use Rattle.state.specs.Rings.{written};
 ghost use Rattle.events.specs.Turn.{out, Ready, turn as turn_of};
 
 use layout::Layout;
-use state::{Bridge, Note, Ring, Store};
+use state::{Bridge, Note, Ring};
 
 #[derive(Clone, Copy)]
 pub enum Event {
@@ -32,18 +32,15 @@ pub struct Answer {
 }
 
 // A stored word goes to the ring's next cell; no other cell is written.
-pub fn write_cell(cells: &mut [u16], ring: Ring, store: Store)
+pub fn write_cell(cells: &mut [u16], ring: Ring, store: Option<u16>)
     requires { RingFit (length cells.old) ring }
     ensures { cells.new ≡ written (length cells.old) cells.old ring store }
 {
-    let head = ring.head as usize;
-    let count = ring.count as usize;
-    match store {
-        Store::Keep => {}
-        Store::Put(word) => {
-            let cell = (head + count) % cells.len();
-            cells[cell] = word;
-        }
+    if let Some(word) = store {
+        let head = ring.head as usize;
+        let count = ring.count as usize;
+        let cell = (head + count) % cells.len();
+        cells[cell] = word;
     }
 }
 
@@ -52,21 +49,15 @@ pub fn turn(bridge: Bridge, tx: &mut [u16], rx: &mut [u16], event: Event) -> Ans
     requires { Ready bridge tx.old rx.old }
     ensures { out result tx.new rx.new ≡ turn_of layouts bridge tx.old rx.old event }
 {
-    let tx_ring = bridge.sending.tx;
-    let rx_ring = bridge.receiving.rx;
-    let tx_head = tx_ring.head as usize;
-    let rx_head = rx_ring.head as usize;
+    let tx_head = bridge.sending.tx.head as usize;
+    let rx_head = bridge.receiving.rx.head as usize;
     let did = react::react(bridge, event, tx[tx_head], rx[rx_head]);
-    let tx_store = did.tx;
-    let rx_store = did.rx;
-    write_cell(tx, tx_ring, tx_store);
-    write_cell(rx, rx_ring, rx_store);
-    let state = did.bridge;
-    let note = did.note;
+    write_cell(tx, bridge.sending.tx, did.tx);
+    write_cell(rx, bridge.receiving.rx, did.rx);
     Answer {
-        state: state,
+        state: did.bridge,
         sdo: did.sdo,
         sout: did.sout,
-        note: note,
+        note: did.note,
     }
 }

@@ -12,18 +12,20 @@ use crate::Event;
 use clock::clocked;
 use layout::Layout;
 use plan::Plan;
-use state::{Bridge, Clock, Store};
+use state::{Bridge, Clock};
 use ticks::{Did, quietly, ticked};
 
 fn powered(good: bool, layout: Layout) -> Bridge
     ensures { result ≡ powered_of good layout }
 {
     if good {
-        return Bridge::good_in(layout);
+        Bridge::good_in(layout)
+    } else {
+        Bridge::bad_in(layout)
     }
-    Bridge::bad_in(layout)
 }
 
+// Stays: (a) any caller lends the record, broken ones too (`step` refuses them with note 2), so no type can carry `HostFit`, `SendFit` or `Doable`.
 // A host's plan carried out.
 fn hosted(bridge: Bridge, clock: Clock, plan: Plan) -> Did
     requires host_fit { HostFit bridge }
@@ -31,15 +33,11 @@ fn hosted(bridge: Bridge, clock: Clock, plan: Plan) -> Did
     ensures { result ≡ hosted_of layouts bridge clock plan }
 {
     let after = plan::performed(bridge, clock, plan);
-    let note = plan.note;
-    let store = plan.store;
     Did {
-        bridge: after,
         sdo: plan.sdo,
-        sout: true,
-        note: note,
-        tx: store,
-        rx: Store::Keep,
+        note: plan.note,
+        tx: plan.store,
+        ..quietly(after)
     }
 }
 
@@ -48,17 +46,14 @@ fn word_event(bridge: Bridge, word: u16, rx_oldest: u16) -> Did
     ensures { result ≡ hosted_of layouts bridge (marked bridge.clock) (planned layouts bridge word rx_oldest) }
 {
     let plan = host::planned(bridge, word, rx_oldest);
-    let clock = plan::marked(bridge.clock);
-    hosted(bridge, clock, plan)
+    hosted(bridge, plan::marked(bridge.clock), plan)
 }
 
 fn release_event(bridge: Bridge) -> Did
     requires { HostFit bridge }
     ensures { result ≡ hosted_of layouts bridge bridge.clock (released_in bridge bridge.frame.phase) }
 {
-    let plan = release::released(bridge);
-    let clock = bridge.clock;
-    hosted(bridge, clock, plan)
+    hosted(bridge, bridge.clock, release::released(bridge))
 }
 
 pub fn react(bridge: Bridge, event: Event, tx_oldest: u16, rx_oldest: u16) -> Did

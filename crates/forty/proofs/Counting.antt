@@ -13,9 +13,7 @@ use Rattle.registers.specs.declared.Regs.{Regs}
 use Rattle.events.specs.declared.Event.{Event}
 use Rattle.bridge.specs.Runs.{Config, ticks_in, end_of}
 use Rattle.bridge.proofs.Ticks.{ticks_append}
-use Rattle.verdict.specs.Verdicts.{is_taken}
-use Rattle.verdict.specs.declared.Verdict.{Verdict}
-use Rattle.verdict.specs.declared.Verdict.TheVariants.{Taken}
+use Rattle.verdict.specs.Verdicts.{is_taken, Verdict, Taken}
 use Rattle.frames.specs.declared.Order.TheVariants.{FwdWrCrc}
 use Rattle.callup.specs.CallUp.{vsync, given, call_up, call_up_to}
 use Rattle.frames_found.specs.Found.{frame_in}

@@ -17,7 +17,7 @@ use Rattle.order.specs.Accepted.{accepted_in}
 use Rattle.order.specs.Premises.{Premises}
 use Rattle.order.proofs.Examples.{from, opening, meets}
 use Rattle.order.proofs.Tests.{are_premises}
-use Rattle.verdict.specs.declared.Verdict.TheVariants.{Taken}
+use Rattle.verdict.specs.Verdicts.{Taken}
 use Rattle.callup.specs.CallUp.{given, pairs}
 use Rattle.callup.specs.Taken.{Open}
 use Rattle.board.specs.Board.{empty_board}

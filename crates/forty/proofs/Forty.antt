@@ -1,4 +1,5 @@
 -- Each part of what was asked, by the theorem behind it. Assumes nothing.
+use Rattle.std.specs.Prelude.{Err}
 use mathlib.Core.Path.{◌≡◌, refl, ap, ap₂, sym, ◌∙◌, subst}
 use mathlib.Core.Bool.{Bool, true, false}
 use mathlib.Core.List.{List, [], ◌++◌}
@@ -24,9 +25,8 @@ use Rattle.order.specs.Exactly.{Whole as WholeLine}
 use Rattle.order.specs.Premises.{Premises}
 use Rattle.order.proofs.Steps.{Between}
 use Rattle.order.proofs.Order.{between_run, between_power, exactly_all, all_sent}
-use Rattle.verdict.specs.Verdicts.{last_slot, call_up_most, has_room, room_verdict, verdict_by, is_taken, is_broken}
-use Rattle.verdict.specs.declared.Verdict.{Verdict}
-use Rattle.verdict.specs.declared.Verdict.TheVariants.{Taken, WrongStores, BrokenRecord, NoSlot, WrongLength, NoRoom}
+use Rattle.verdict.specs.Verdicts.{last_slot, call_up_most, has_room, room_verdict, verdict_by, is_taken, is_broken, Verdict, Taken}
+use Rattle.verdict.specs.declared.Refusal.TheVariants.{WrongStores, BrokenRecord, NoSlot, WrongLength, NoRoom}
 use Rattle.verdict.proofs.Taking.{Finds, taken_facts}
 use Rattle.callup.specs.CallUp.{call_up_to, pairs}
 use Rattle.callup.specs.Taken.{Takes}
@@ -85,19 +85,19 @@ refused board c slot reading ws h = rw h refl
 
 -- One refusal after the other.
 module _ (c : Config) (slot n : ℕ) where
-  wrong_stores : (RightStores c.tx c.rx → ⊥) → verdict_of c slot n ≡ WrongStores
+  wrong_stores : (RightStores c.tx c.rx → ⊥) → verdict_of c slot n ≡ Err WrongStores
   unfolding verdict_by
   wrong_stores h =
-      pick_keeps (λ (v : Verdict). v ≡ WrongStores) (eqb (length c.tx) 512) _ _
-      (λ t. pick_keeps (λ (v : Verdict). v ≡ WrongStores) (eqb (length c.rx) 256) _ _
+      pick_keeps (λ (v : Verdict). v ≡ Err WrongStores) (eqb (length c.tx) 512) _ _
+      (λ t. pick_keeps (λ (v : Verdict). v ≡ Err WrongStores) (eqb (length c.rx) 256) _ _
       (λ r. absurd (h (record { tx_is = eqb-true _ _ t; rx_is = eqb-true _ _ r }))) (λ r. refl)) (λ t. refl)
 
-  broken_record : RightStores c.tx c.rx → sound c.bridge ≡ false → verdict_of c slot n ≡ BrokenRecord
+  broken_record : RightStores c.tx c.rx → sound c.bridge ≡ false → verdict_of c slot n ≡ Err BrokenRecord
   unfolding verdict_by pick
   broken_record s h = rw (eq-eqb (length c.tx) 512 s.tx_is, eq-eqb (length c.rx) 256 s.rx_is, h) refl
 
   -- neither of the two
-  past_notes : Whole c → verdict_of c slot n ≡ pick (ltb last_slot slot) NoSlot (pick (eqb n 0) WrongLength (pick (ltb call_up_most n) WrongLength (room_verdict c.bridge n)))
+  past_notes : Whole c → verdict_of c slot n ≡ pick (ltb last_slot slot) (Err NoSlot) (pick (eqb n 0) (Err WrongLength) (pick (ltb call_up_most n) (Err WrongLength) (room_verdict c.bridge n)))
   unfolding verdict_by pick
   past_notes w = rw (eq-eqb (length c.tx) 512 w.stores.tx_is, eq-eqb (length c.rx) 256 w.stores.rx_is, w.rules) refl
 
@@ -124,7 +124,7 @@ unfolding shift_of pick
 shift_is board m ds budget b = rw b (ap (λ (x : List Due). shift_from x (shifting board m Taken 0 0) budget) (dues_cells ds))
 
 -- a bridge that is open is not broken
-unbroken : (t : Bool) → is_broken (pick t Taken NoRoom) ≡ false
+unbroken : (t : Bool) → is_broken (pick t Taken (Err NoRoom)) ≡ false
 unfolding pick
 unbroken true = refl
 unbroken false = refl
@@ -139,7 +139,7 @@ module _ (board : Board) (m : Moment) (ds : List Due) (budget : ℕ) (o : Obeys 
 
   sure : is_broken (first_verdict m) ≡ false
   sure =
-      let v : first_verdict m ≡ pick (has_room m.at.bridge 1) Taken NoRoom
+      let v : first_verdict m ≡ pick (has_room m.at.bridge 1) Taken (Err NoRoom)
       = verdict_open m.at 0 1 o r.free (omega arith) (omega arith) (omega arith) in
       ap is_broken v ∙ unbroken (has_room m.at.bridge 1)
 

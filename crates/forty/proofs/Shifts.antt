@@ -1,4 +1,5 @@
 -- A shift of call-ups that may be taken ends: all are taken and sent, within the budget of their words and the chain's delay. Assumes nothing.
+use Rattle.std.specs.Prelude.{Err}
 use mathlib.Core.Path.{◌≡◌, refl, ap, ap₂, sym, ◌∙◌}
 use mathlib.Core.Bool.{Bool, true, false, not, ◌&&◌}
 use mathlib.Core.List.{List, [], ◌∷◌, ◌++◌, append_assoc, append-nil}
@@ -18,8 +19,8 @@ use Rattle.bridge.specs.Runs.{Config, end_of, AllSent}
 use Rattle.bridge.proofs.Reached.{Obeys}
 use Rattle.order.specs.Accepted.{Log, log_by}
 use Rattle.order.specs.Premises.{Premises}
-use Rattle.verdict.specs.Verdicts.{last_slot, call_up_most, has_room, is_no_room}
-use Rattle.verdict.specs.declared.Verdict.TheVariants.{Taken, NoRoom}
+use Rattle.verdict.specs.Verdicts.{last_slot, call_up_most, has_room, is_no_room, Taken}
+use Rattle.verdict.specs.declared.Refusal.TheVariants.{NoRoom}
 use Rattle.callup.specs.CallUp.{vsync, call_up_to, pairs, ticks_for}
 use Rattle.callup.specs.Taken.{Open, Takes}
 use Rattle.callup.proofs.Taken.{Taken as CallTaken}
@@ -52,10 +53,10 @@ settle_more left lag delay n =
 met_taken : (c : Config) (slot n : ℕ) → Obeys c → Open c → slot ≤ last_slot → 1 ≤ n → n ≤ call_up_most → met (Room slot n) c ≡ true → verdict_of c slot n ≡ Taken
 unfolding met pick
 met_taken c slot n o f s a b h =
-    let v : verdict_of c slot n ≡ pick (has_room c.bridge n) Taken NoRoom = verdict_open c slot n o f s a b in
+    let v : verdict_of c slot n ≡ pick (has_room c.bridge n) Taken (Err NoRoom) = verdict_open c slot n o f s a b in
     v ∙ roomy (has_room c.bridge n) (rw v at h)
   where
-    roomy : (t : Bool) → not (is_no_room (pick t Taken NoRoom)) ≡ true → pick t Taken NoRoom ≡ Taken
+    roomy : (t : Bool) → not (is_no_room (pick t Taken (Err NoRoom))) ≡ true → pick t Taken (Err NoRoom) ≡ Taken
     roomy true k = refl
     roomy false k = never false k refl
 

@@ -1,4 +1,5 @@
 -- A wait ends: within what is still to settle a call-up finds room, or all is sent. Assumes nothing.
+use Rattle.std.specs.Prelude.{Err}
 use mathlib.Core.Path.{◌≡◌, refl, ap, sym, ◌∙◌}
 use mathlib.Core.Bool.{Bool, true, false}
 use mathlib.Core.List.{List, [], ◌∷◌}
@@ -24,8 +25,8 @@ use Rattle.order.specs.Accepted.{plan_of, Log, came, accepts, collects, joined, 
 use Rattle.order.specs.Premises.{Premises}
 use Rattle.callup.specs.Taken.{Open}
 use Rattle.callup.proofs.Frame.{log_of}
-use Rattle.verdict.specs.Verdicts.{last_slot, call_up_most, is_idle, is_ready, has_room, room_verdict, verdict_by}
-use Rattle.verdict.specs.declared.Verdict.TheVariants.{Taken, NoRoom}
+use Rattle.verdict.specs.Verdicts.{last_slot, call_up_most, is_idle, is_ready, has_room, room_verdict, verdict_by, Taken}
+use Rattle.verdict.specs.declared.Refusal.TheVariants.{NoRoom}
 use Rattle.board.specs.Board.{verdict_of}
 use Rattle.echoes.proofs.Ticks.{Tuned, Ticking, may_open, sout_is, send_rules}
 use Rattle.echoes.proofs.Settling.{front, behind, to_settle, rests, Ticked, bit_due, tick_run, Empty, empties, length_behind}
@@ -57,7 +58,7 @@ unfolding is_ready is_idle
 ready_open c o = rw (may_open c o, o.idle_frame) refl
 
 pub verdict_open : (c : Config) (slot n : ℕ) → Obeys c → Open c → slot ≤ last_slot → 1 ≤ n → n ≤ call_up_most
-    → verdict_of c slot n ≡ pick (has_room c.bridge n) Taken NoRoom
+    → verdict_of c slot n ≡ pick (has_room c.bridge n) Taken (Err NoRoom)
 unfolding verdict_by room_verdict pick
 verdict_open c slot n o f s a b =
     rw (

@@ -8,8 +8,7 @@ use Rattle.line.specs.Reader.{read_line}
 use Rattle.events.specs.declared.Event.{Event}
 use Rattle.bridge.specs.Runs.{Config, sout_of, AllSent}
 use Rattle.order.specs.Accepted.{accepted_in}
-use Rattle.verdict.specs.Verdicts.{last_slot, call_up_most}
-use Rattle.verdict.specs.declared.Verdict.TheVariants.{Taken}
+use Rattle.verdict.specs.Verdicts.{last_slot, call_up_most, Taken}
 use Rattle.callup.specs.CallUp.{pairs, ticks_for}
 use Rattle.callup.specs.Taken.{Open, Sixteens}
 use Rattle.board.specs.Board.{showing}

@@ -1,7 +1,7 @@
 -- What was asked of the call-up board: the words of 02 item 13 stand here in quotes, the rest is ours. Read this file from top to bottom; `proofs/Forty.antt` cites the
 -- theorem behind each. `call_up_of` and `shift_of` are crates/board/specs and crates/shift/specs, and the contracts of `board::call_up` and `shift::shift` say that
 -- the code does what they say, for every input, with no `requires`. Assumes nothing.
-use Rattle.std.specs.Prelude.{◌≡◌, Bool, true, false, List, [], ◌∷◌, ◌++◌, ◌≢◌, ℕ, ◌+◌, ◌≤◌, ◌<◌, length, get_or, take}
+use Rattle.std.specs.Prelude.{◌≡◌, Bool, true, false, List, [], ◌∷◌, ◌++◌, ◌≢◌, ℕ, ◌+◌, ◌≤◌, ◌<◌, length, get_or, take, Err}
 use Rattle.layout.specs.declared.Layout.{Layout}
 use Rattle.command.specs.Layouts.{layouts}
 use Rattle.line.specs.Format.{Words}
@@ -13,8 +13,8 @@ use Rattle.bridge.specs.Runs.{Config, RightStores, Whole, ticks_in, end_of, sout
 use Rattle.order.specs.Accepted.{accepted_in}
 use Rattle.order.specs.Exactly.{Whole as WholeLine}
 use Rattle.order.specs.Premises.{Premises}
-use Rattle.verdict.specs.Verdicts.{slot_count, last_slot, call_up_most, is_ready, has_room, is_taken, is_broken}
-use Rattle.verdict.specs.declared.Verdict.TheVariants.{Taken, WrongStores, BrokenRecord, NoSlot, WrongLength, NotReady, NoRoom}
+use Rattle.verdict.specs.Verdicts.{slot_count, last_slot, call_up_most, is_ready, has_room, is_taken, is_broken, Taken}
+use Rattle.verdict.specs.declared.Refusal.TheVariants.{WrongStores, BrokenRecord, NoSlot, WrongLength, NotReady, NoRoom}
 use Rattle.callup.specs.CallUp.{call_up_to, pairs}
 use Rattle.callup.specs.Taken.{Takes, AllDone, Same}
 use Rattle.board.specs.Board.{called, verdict_of, call_up_of, slot_of, empty_slot, showing}
@@ -36,14 +36,14 @@ pub record TakenRight (c : Config) (ws : List ℕ) : Type 0 where
 
 -- the first refusal that is due, in 02's order; notes 1 and 2 come before
 pub record InOrder (c : Config) (slot n : ℕ) : Type 0 where
-  pub wrong_stores : (RightStores c.tx c.rx → ⊥) → verdict_of c slot n ≡ WrongStores
-  pub broken_record : RightStores c.tx c.rx → sound c.bridge ≡ false → verdict_of c slot n ≡ BrokenRecord
-  pub no_slot : Whole c → last_slot < slot → verdict_of c slot n ≡ NoSlot
-  pub no_words : Whole c → slot ≤ last_slot → n ≡ 0 → verdict_of c slot n ≡ WrongLength
-  pub many_words : Whole c → slot ≤ last_slot → call_up_most < n → verdict_of c slot n ≡ WrongLength
-  pub not_ready : Whole c → slot ≤ last_slot → 1 ≤ n → n ≤ call_up_most → is_ready c.bridge ≡ false → verdict_of c slot n ≡ NotReady
+  pub wrong_stores : (RightStores c.tx c.rx → ⊥) → verdict_of c slot n ≡ Err WrongStores
+  pub broken_record : RightStores c.tx c.rx → sound c.bridge ≡ false → verdict_of c slot n ≡ Err BrokenRecord
+  pub no_slot : Whole c → last_slot < slot → verdict_of c slot n ≡ Err NoSlot
+  pub no_words : Whole c → slot ≤ last_slot → n ≡ 0 → verdict_of c slot n ≡ Err WrongLength
+  pub many_words : Whole c → slot ≤ last_slot → call_up_most < n → verdict_of c slot n ≡ Err WrongLength
+  pub not_ready : Whole c → slot ≤ last_slot → 1 ≤ n → n ≤ call_up_most → is_ready c.bridge ≡ false → verdict_of c slot n ≡ Err NotReady
   pub no_room : Whole c → slot ≤ last_slot → 1 ≤ n → n ≤ call_up_most → is_ready c.bridge ≡ true → has_room c.bridge n ≡ false
-      → verdict_of c slot n ≡ NoRoom
+      → verdict_of c slot n ≡ Err NoRoom
 
 -- what a shift tells of itself, whatever the list, the chain and the budget: the first so many were taken, and the board shows these
 pub record Counted (board : Board) (ds : List Due) (budget : ℕ) (s : Shifting) : Type 0 where

@@ -1,5 +1,5 @@
 -- Forwards (01 Frames, "Forwards store data words as they come"; notes 5, 8 and 9, which are one guard). Assumes nothing.
-use Rattle.std.specs.Prelude.{Bool, true, false, not, ◌&&◌, ◌||◌, ℕ, ◌+◌, ltb, leb, eqb}
+use Rattle.std.specs.Prelude.{Bool, true, false, not, ◌&&◌, ◌||◌, ℕ, ◌+◌, ltb, leb, eqb, Option, None, Some}
 use Rattle.base.specs.Pick.{pick}
 use Rattle.command.specs.declared.Command.TheVariants.{Forward}
 use Rattle.registers.specs.Raising.{raised_in}
@@ -16,8 +16,6 @@ use Rattle.state.specs.declared.Note.TheVariants.{Done, WrongStores, BrokenRecor
 use Rattle.state.specs.declared.Phase.TheVariants.{Collecting}
 use Rattle.state.specs.declared.Place.{Place}
 use Rattle.state.specs.declared.Progress.{Progress}
-use Rattle.state.specs.declared.Store.{Store}
-use Rattle.state.specs.declared.Store.TheVariants.{Keep, Put}
 use Rattle.state.specs.declared.Queue.{Queue}
 use Rattle.plan.specs.Plan.{no_answer}
 use Rattle.plan.specs.declared.Plan.{Plan}
@@ -25,10 +23,10 @@ use Rattle.plan.specs.declared.Receive.TheVariants.{LeaveRx}
 use Rattle.forwards.specs.declared.Wish.{Wish}
 use Rattle.forwards.specs.declared.Granted.{Granted}
 
-abbrev pub wish : Store → Bool → Place → Wish
+abbrev pub wish : Option ℕ → Bool → Place → Wish
 wish st release p = record { store = st; release = release; place = p }
 
-abbrev pub granted : Store → Deed → Note → Granted
+abbrev pub granted : Option ℕ → Deed → Note → Granted
 granted st d n = record { store = st; deed = d; note = n }
 
 -- just after the command word, which the CRC begins with (01 Frames, "over command and data words")
@@ -39,16 +37,16 @@ just_begun sum blocked = record { got = 0; crc = sum; mine = 0; released = false
 abbrev pub word_counted : Progress → Progress
 word_counted at = record { got = at.got + 1; crc = at.crc; mine = at.mine; released = at.released; blocked = at.blocked }
 
-unfoldable pub asks_store : Store → Bool
-asks_store Keep = false
-asks_store (Put w) = true
+unfoldable pub asks_store : Option ℕ → Bool
+asks_store None = false
+asks_store (Some w) = true
 
 -- Notes 5, 8 and 9: a blocked forward's word or release is dropped; a word with TX full, or a release with fewer places free than it needs (02
 -- item 3), is a transmit clear, and "a data word that releases is stored first". `count` words are in TX.
 unfoldable pub guard : Bool → ℕ → Queue → Wish → Granted
 guard blocked count q w =
-    pick (blocked && (asks_store w.store || w.release)) (granted Keep Leave Blocked)
-    (pick (asks_store w.store && leb tx_size count) (granted Keep ClearAll TxFull)
+    pick (blocked && (asks_store w.store || w.release)) (granted None Leave Blocked)
+    (pick (asks_store w.store && leb tx_size count) (granted None ClearAll TxFull)
     (pick w.release
     (pick (lacks q w.place) (granted w.store ClearAll QueueFull) (granted w.store (Enqueue w.place) Done))
     (granted w.store Leave Done)))
@@ -73,7 +71,7 @@ faulted c RxFull = c
 faulted c RxEmpty = c
 
 -- the frame's unreleased words in TX
-unfoldable pub mine_after : Deed → Store → ℕ → Bool → ℕ
+unfoldable pub mine_after : Deed → Option ℕ → ℕ → Bool → ℕ
 mine_after Leave st mine released = pick (asks_store st && not released) (mine + 1) mine
 mine_after (Enqueue p) st mine released = 0
 mine_after (TakeBack n) st mine released = 0
@@ -120,11 +118,11 @@ unfoldable pub forward_word : Bridge → Fwd → Progress → ℕ → Plan
 forward_word b f at w =
     forwarded b f (word_counted at)
     (guard at.blocked b.sending.tx.count b.sending.queue
-    (wish (Put w) (releases f (word_counted at) b.control.regs.txfflvl (b.sending.tx.count + 1)) (new_place f.words f.ends f.reads)))
+    (wish (Some w) (releases f (word_counted at) b.control.regs.txfflvl (b.sending.tx.count + 1)) (new_place f.words f.ends f.reads)))
 
 -- the command word: released at once where there are no data words and it is not named _CRC. "A command of no words and no ENDs queues nothing"
 unfoldable pub forward_begun : Bridge → Fwd → ℕ → Bool → Plan
 forward_begun b f sum blocked =
     forwarded b f (just_begun sum blocked)
     (guard blocked b.sending.tx.count b.sending.queue
-    (wish Keep (not f.crc && eqb f.words 0 && ltb 0 f.ends) (new_place f.words f.ends f.reads)))
+    (wish None (not f.crc && eqb f.words 0 && ltb 0 f.ends) (new_place f.words f.ends f.reads)))

@@ -9,14 +9,14 @@ ghost use Rattle.forwards.specs.Forward.{granted, asks_store, guard as guard_of,
 ghost use Rattle.registers.specs.Registers.{blocking};
 
 use command::Command;
-use plan::{NO_ANSWER, Plan, Receive, raised_in};
+use plan::{Plan, collecting, plain, raised_in};
 use registers::{Control, Flag};
-use state::{Bridge, Deed, Fwd, Note, Phase, Place, Progress, Queue, Store};
+use state::{Bridge, Deed, Fwd, Note, Place, Progress, Queue};
 
 // What a forward asks: a word to store, and whether its command is to be queued.
 #[derive(Clone, Copy)]
 pub struct Wish {
-    pub store: Store,
+    pub store: Option<u16>,
     pub release: bool,
     pub place: Place,
 }
@@ -24,66 +24,54 @@ pub struct Wish {
 // What is granted of a wish.
 #[derive(Clone, Copy)]
 pub struct Granted {
-    pub store: Store,
+    pub store: Option<u16>,
     pub deed: Deed,
     pub note: Note,
 }
 
-fn asks_store(store: Store) -> bool
+fn asks_store(store: Option<u16>) -> bool
     ensures { result ≡ asks_store store }
 {
-    match store {
-        Store::Keep => false,
-        Store::Put(_) => true,
-    }
+    store.is_some()
 }
 
-fn grant(store: Store, deed: Deed, note: Note) -> Granted
+fn grant(store: Option<u16>, deed: Deed, note: Note) -> Granted
     ensures { result ≡ granted store deed note }
 {
-    Granted {
-        store: store,
-        deed: deed,
-        note: note,
-    }
+    Granted { store, deed, note }
 }
 
 // Note 5.
-fn is_blocked(blocked: bool, store: Store, release: bool) -> bool
-    ensures { result ≡ (blocked && (asks_store store || release)) }
+fn is_blocked(blocked: bool, wish: Wish) -> bool
+    ensures { result ≡ (blocked && (asks_store wish.store || wish.release)) }
 {
-    let asks = asks_store(store);
-    blocked & (asks | release)
+    blocked & (asks_store(wish.store) | wish.release)
 }
 
 // Note 8.
-fn overflows(store: Store, count: u16) -> bool
-    ensures { result ≡ (asks_store store && leb tx_size count) }
+fn overflows(wish: Wish, count: u16) -> bool
+    ensures { result ≡ (asks_store wish.store && leb tx_size count) }
 {
-    let asks = asks_store(store);
-    asks & (512 <= count)
+    asks_store(wish.store) & (512 <= count)
 }
 
 // What is granted with `count` words in TX and this queue.
 pub fn guard(blocked: bool, count: u16, queue: Queue, wish: Wish) -> Granted
     ensures { result ≡ guard_of blocked count queue wish }
 {
-    let store = wish.store;
-    let release = wish.release;
-    let place = wish.place;
-    if is_blocked(blocked, store, release) {
-        return grant(Store::Keep, Deed::Leave, Note::Blocked);
+    if is_blocked(blocked, wish) {
+        return grant(None, Deed::Leave, Note::Blocked);
     }
-    if overflows(store, count) {
-        return grant(Store::Keep, Deed::ClearAll, Note::TxFull);
+    if overflows(wish, count) {
+        return grant(None, Deed::ClearAll, Note::TxFull);
     }
-    if release {
-        if queue::lacks(queue, place) {
-            return grant(store, Deed::ClearAll, Note::QueueFull);
-        }
-        return grant(store, Deed::Enqueue(place), Note::Done);
+    if !wish.release {
+        return grant(wish.store, Deed::Leave, Note::Done);
     }
-    grant(store, Deed::Leave, Note::Done)
+    if queue::lacks(queue, wish.place) {
+        return grant(wish.store, Deed::ClearAll, Note::QueueFull);
+    }
+    grant(wish.store, Deed::Enqueue(wish.place), Note::Done)
 }
 
 // The flag of notes 8 and 9.
@@ -101,49 +89,31 @@ fn one_more(more: bool, n: u16) -> u16
     requires { n < 65535 }
     ensures { result ≡ pick more (n + 1) n }
 {
-    if more {
-        return n + 1;
-    }
-    n
+    if more { n + 1 } else { n }
 }
 
 // The frame's unreleased words in TX.
-fn mine_after(deed: Deed, store: Store, mine: u16, released: bool) -> u16
-    requires { mine < 65535 }
-    ensures { result ≡ mine_after deed store mine released }
+fn mine_after(granted: Granted, at: Progress) -> u16
+    requires { at.mine < 65535 }
+    ensures { result ≡ mine_after granted.deed granted.store at.mine at.released }
 {
-    match deed {
-        Deed::Leave => one_more(asks_store(store) & !released, mine),
-        Deed::Enqueue(_) => 0,
-        Deed::TakeBack(_) => 0,
-        Deed::ClearAll => 0,
-        Deed::ResetAll => 0,
+    match granted.deed {
+        Deed::Leave => one_more(asks_store(granted.store) & !at.released, at.mine),
+        Deed::Enqueue(_) | Deed::TakeBack(_) | Deed::ClearAll | Deed::ResetAll => 0,
     }
 }
 
 fn enqueues(deed: Deed) -> bool
     ensures { result ≡ enqueues_of deed }
 {
-    match deed {
-        Deed::Leave => false,
-        Deed::Enqueue(_) => true,
-        Deed::TakeBack(_) => false,
-        Deed::ClearAll => false,
-        Deed::ResetAll => false,
-    }
+    matches!(deed, Deed::Enqueue(_))
 }
 
 // These block a forward still being received (01 Registers, "Transmit clear").
 fn clears(deed: Deed) -> bool
     ensures { result ≡ clears_of deed }
 {
-    match deed {
-        Deed::Leave => false,
-        Deed::Enqueue(_) => false,
-        Deed::TakeBack(_) => false,
-        Deed::ClearAll => true,
-        Deed::ResetAll => true,
-    }
+    matches!(deed, Deed::ClearAll | Deed::ResetAll)
 }
 
 // A forward that goes on collecting, after what was granted of its word.
@@ -151,34 +121,23 @@ fn forwarded(bridge: Bridge, forward: Fwd, at: Progress, granted: Granted) -> Pl
     requires { at.mine < 65535 }
     ensures { result ≡ forwarded_of bridge forward at granted }
 {
-    let held = bridge.frame.held;
-    let store = granted.store;
-    let deed = granted.deed;
-    let note = granted.note;
-    let queued = enqueues(deed);
-    let cleared = clears(deed);
+    let command = Command::Forward {
+        crc: forward.crc,
+        words: forward.words,
+        ends: forward.ends,
+        reads: forward.reads,
+    };
+    let after = Progress {
+        mine: mine_after(granted, at),
+        released: enqueues(granted.deed) | at.released,
+        blocked: clears(granted.deed) | at.blocked,
+        ..at
+    };
     Plan {
-        phase: Phase::Collecting {
-            command: Command::Forward {
-                crc: forward.crc,
-                words: forward.words,
-                ends: forward.ends,
-                reads: forward.reads,
-            },
-            got: at.got,
-            crc: at.crc,
-            mine: mine_after(deed, store, at.mine, at.released),
-            released: queued | at.released,
-            blocked: cleared | at.blocked,
-        },
-        held: held,
-        control: faulted(bridge.control, note),
-        store: store,
-        deed: deed,
-        receive: Receive::LeaveRx,
-        note: note,
-        sdo: NO_ANSWER,
-        status: false,
+        control: faulted(bridge.control, granted.note),
+        store: granted.store,
+        deed: granted.deed,
+        ..plain(bridge, collecting(command, after), granted.note)
     }
 }
 
@@ -196,17 +155,18 @@ pub fn forward_word(bridge: Bridge, forward: Fwd, at: Progress, word: u16) -> Pl
     requires { (at.got < 65535) × (at.mine < 65535) × (bridge.sending.tx.count < 65535) }
     ensures { result ≡ forward_word bridge forward at word }
 {
-    let mut after = at;
-    after.got = at.got + 1;
+    let after = Progress {
+        got: at.got + 1,
+        ..at
+    };
     let count = bridge.sending.tx.count;
-    let queue = bridge.sending.queue;
     let level = bridge.control.regs.txfflvl;
     let wish = Wish {
-        store: Store::Put(word),
+        store: Some(word),
         release: releases(forward, after, level, count + 1),
         place: queue::new_place(forward.words, forward.ends, forward.reads),
     };
-    let granted = guard(at.blocked, count, queue, wish);
+    let granted = guard(at.blocked, count, bridge.sending.queue, wish);
     forwarded(bridge, forward, after, granted)
 }
 
@@ -215,22 +175,20 @@ pub fn forward_begun(bridge: Bridge, forward: Fwd, sum: u16) -> Plan
     ensures { result ≡ forward_begun bridge forward sum (blocking bridge.control.flags) }
 {
     let blocked = registers::blocking(bridge.control.flags);
-    let count = bridge.sending.tx.count;
-    let queue = bridge.sending.queue;
     let wordless = forward.words == 0;
     let owes = 0 < forward.ends;
     let wish = Wish {
-        store: Store::Keep,
+        store: None,
         release: !forward.crc & wordless & owes,
         place: queue::new_place(forward.words, forward.ends, forward.reads),
     };
-    let granted = guard(blocked, count, queue, wish);
+    let granted = guard(blocked, bridge.sending.tx.count, bridge.sending.queue, wish);
     let at = Progress {
         got: 0,
         crc: sum,
         mine: 0,
         released: false,
-        blocked: blocked,
+        blocked,
     };
     forwarded(bridge, forward, at, granted)
 }

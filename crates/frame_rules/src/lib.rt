@@ -104,28 +104,28 @@ fn collect_sound(command: Command, at: Progress) -> bool
             reads,
         } => forward_sound(
             Fwd {
-                crc: crc,
-                words: words,
-                ends: ends,
-                reads: reads,
+                crc,
+                words,
+                ends,
+                reads,
             },
             at,
         ),
-        Command::DataRead { crc: _, words } => (got == 0)
+        Command::DataRead { words, .. } => (got == 0)
             & (mine == 0)
             & !released
             & (0 < words)
             & (words <= 256),
-        Command::RegisterWrite {
-            crc: _,
-            address,
-            count,
-        } => (got <= count) & (mine == 0) & !released & (0 < count) & span_sound(address, count),
-        Command::RegisterRead {
-            crc: _,
-            address,
-            count,
-        } => (got == 0) & (mine == 0) & !released & (0 < count) & span_sound(address, count),
+        Command::RegisterWrite { address, count, .. } => (got <= count)
+            & (mine == 0)
+            & !released
+            & (0 < count)
+            & span_sound(address, count),
+        Command::RegisterRead { address, count, .. } => (got == 0)
+            & (mine == 0)
+            & !released
+            & (0 < count)
+            & span_sound(address, count),
         Command::SoftReset => (got == 0) & (mine == 0) & !released,
     }
 }
@@ -156,14 +156,14 @@ pub fn phase_sound(phase: Phase) -> bool
         } => collect_sound(
             command,
             Progress {
-                got: got,
-                crc: crc,
-                mine: mine,
-                released: released,
-                blocked: blocked,
+                got,
+                crc,
+                mine,
+                released,
+                blocked,
             },
         ),
-        Phase::Answering { reply, crc: _ } => reply_sound(reply),
+        Phase::Answering { reply, .. } => reply_sound(reply),
         Phase::Discarding => true,
     }
 }
@@ -173,15 +173,8 @@ pub fn mine_of(phase: Phase) -> u16
 {
     match phase {
         Phase::Idle => 0,
-        Phase::Collecting {
-            command: _,
-            got: _,
-            crc: _,
-            mine,
-            released: _,
-            blocked: _,
-        } => mine,
-        Phase::Answering { reply: _, crc: _ } => 0,
+        Phase::Collecting { mine, .. } => mine,
+        Phase::Answering { .. } => 0,
         Phase::Discarding => 0,
     }
 }
@@ -207,12 +200,11 @@ pub fn to_come(phase: Phase) -> u16
         Phase::Collecting {
             command,
             got,
-            crc: _,
-            mine: _,
             released,
             blocked,
+            ..
         } => owed_by(command, got, released, blocked),
-        Phase::Answering { reply: _, crc: _ } => 0,
+        Phase::Answering { .. } => 0,
         Phase::Discarding => 0,
     }
 }
@@ -225,13 +217,10 @@ fn is_unmarked(phase: Phase) -> bool
         Phase::Idle => false,
         Phase::Collecting {
             command,
-            got: _,
-            crc: _,
-            mine: _,
-            released: _,
             blocked,
+            ..
         } => state::is_forward(command) & !blocked,
-        Phase::Answering { reply: _, crc: _ } => false,
+        Phase::Answering { .. } => false,
         Phase::Discarding => false,
     }
 }

@@ -1,6 +1,6 @@
 -- What a host can order and its command word (02 item 1; 01 Frames, "Layout (ours), command number in bits 15..12"; 02 item 7): the rows of 01's
 -- table, and of the maker's, read from the host's side. Assumes nothing.
-use Rattle.std.specs.Prelude.{Bool, true, false, ◌&&◌, List, [], ◌∷◌, ℕ, ◌+◌, ◌-◌, ◌*◌, ltb, leb, eqb, get_or}
+use Rattle.std.specs.Prelude.{Bool, true, false, ◌&&◌, List, [], ◌∷◌, ℕ, ◌+◌, ◌-◌, ◌*◌, ltb, leb, eqb, get_or, Option, None, Some}
 use Rattle.base.specs.Pick.{pick}
 use Rattle.layout.specs.declared.Layout.{Layout}
 use Rattle.layout.specs.declared.Layout.TheVariants.{Ours, Makers}
@@ -9,10 +9,6 @@ use Rattle.command.specs.declared.Command.{Command}
 use Rattle.command.specs.declared.Command.TheVariants.{Forward, DataRead, RegisterWrite, RegisterRead, SoftReset}
 use Rattle.frames.specs.declared.Order.{Order}
 use Rattle.frames.specs.declared.Order.TheVariants.{FwdWrCrc, FwdWr, FwdWrEndCrc, FwdWrEnd, FwdRdEndCrc, FwdRdEnd, DataRdCrc, DataRd, RegWrCrc, RegWr, RegRdCrc, RegRd, SoftResetCrc}
-use Rattle.frames.specs.declared.Named.{Named}
-use Rattle.frames.specs.declared.Named.TheVariants.{Unknown, Known}
-use Rattle.frames.specs.declared.Head.{Head}
-use Rattle.frames.specs.declared.Head.TheVariants.{Outside, Word}
 
 -- "0 to 31" words beside extra ENDs, and "to 32" where they are read back. 01 Frames, rows 4 and 6
 abbrev pub most_beside_ends : ℕ
@@ -131,19 +127,19 @@ meant (RegRd address count) n = RegisterRead false address count
 meant SoftResetCrc n = SoftReset
 
 -- the command word, where the order is within its limits
-unfoldable pub head_of : Layout → Order → ℕ → Head
-head_of k o n = pick (within o n) (Word (command_word k o n)) Outside
+unfoldable pub head_of : Layout → Order → ℕ → Option ℕ
+head_of k o n = pick (within o n) (Some (command_word k o n)) None
 
 -- An order as four numbers: that of its command, extra ENDs, address, count. A field that the row does not have is 0, so that one order is one row of
 -- numbers (ours: a number that would be ignored is a mistake, and is told).
 
-abbrev pub known : Bool → Order → Named
-known is o = pick is (Known o) Unknown
+abbrev pub known : Bool → Order → Option Order
+known is o = pick is (Some o) None
 
-unfoldable pub rows : ℕ → ℕ → ℕ → List Named
+unfoldable pub rows : ℕ → ℕ → ℕ → List (Option Order)
 rows ends address count =
-    Unknown
-    ∷ Unknown
+    None
+    ∷ None
     ∷ known (eqb ends 0 && eqb address 0 && eqb count 0) FwdWrCrc
     ∷ known (eqb ends 0 && eqb address 0 && eqb count 0) FwdWr
     ∷ known (eqb address 0 && eqb count 0) (FwdWrEndCrc ends)
@@ -159,5 +155,5 @@ rows ends address count =
     ∷ known (eqb ends 0 && eqb address 0 && eqb count 0) SoftResetCrc
     ∷ []
 
-unfoldable pub order_of : ℕ → ℕ → ℕ → ℕ → Named
-order_of number ends address count = get_or (rows ends address count) number Unknown
+unfoldable pub order_of : ℕ → ℕ → ℕ → ℕ → Option Order
+order_of number ends address count = get_or (rows ends address count) number None

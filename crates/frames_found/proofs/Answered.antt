@@ -1,4 +1,5 @@
 -- What the bridge answers to an order reads back as such (02 item 1, "read the answer back as STATUS or data").
+use Rattle.std.specs.Prelude.{Some}
 use mathlib.Core.Path.{◌≡◌, refl, sym, ◌∙◌, ap}
 use mathlib.Core.Bool.{Bool, true, false}
 use mathlib.Core.List.{List, [], ◌∷◌, ◌++◌}
@@ -25,7 +26,7 @@ use Rattle.order.specs.Framed.{host_words}
 use Rattle.frames.specs.Answers.{answer_of, due_of, is_answer, told_of}
 use Rattle.frames.specs.Orders.{fields_within, words_within, within, meant}
 use Rattle.frames.specs.declared.Due.{Due}
-use Rattle.frames.specs.declared.Due.TheVariants.{Nothing, StatusDue, DataDue}
+use Rattle.frames.specs.declared.Due.TheVariants.{StatusDue, DataDue}
 use Rattle.frames.specs.declared.Order.{Order}
 use Rattle.frames.specs.declared.Order.TheVariants.{FwdWrCrc, FwdWr, FwdWrEndCrc, FwdWrEnd, FwdRdEndCrc, FwdRdEnd, DataRdCrc, DataRd, RegWrCrc, RegWr, RegRdCrc, RegRd, SoftResetCrc}
 use Rattle.frames.specs.declared.Told.TheVariants.{Status, Data}
@@ -46,18 +47,16 @@ is_answer_lem s count vs sdo g =
     (and_both _ _ (eq-eqb _ _ (length-append vs (crc_from s vs ∷ []) ∙ omega (arith, g.so_many))) (eq-eqb (crc_from s vs) (crc_from s vs) refl))
 
 -- an order within its limits has its answer
-due : (o : Order) (n : ℕ) → within o n ≡ true → answer_of o ≡ due_of o
+due : (o : Order) (n : ℕ) → within o n ≡ true → Some (answer_of o) ≡ due_of o
 unfolding due_of
 due o n h = pick_true _ _ _ _ (and_l (fields_within o) (words_within o n) h) refl
 
 -- the two kinds of answers are two
 abbrev is_status : Due → Bool
-is_status Nothing = false
 is_status StatusDue = true
 is_status (DataDue count) = false
 
 abbrev count_of : Due → ℕ
-count_of Nothing = 0
 count_of StatusDue = 0
 count_of (DataDue count) = count
 
@@ -89,13 +88,13 @@ status_due x SoftResetCrc n control e = refl
 
 module _ (x : Bool) (n : ℕ) (c : Config) (es : List Event) (u : unbroken es ≡ true) where
   status_back : (o : Order) → within o n ≡ true → Answers x (meant o n) c → answer_of o ≡ StatusDue → bit 0 c.bridge.control.regs.spictrl ≡ false
-      → length (host_words es) ≡ 2 → told_of (start_by x) o (sdo_in layouts c es) ≡ Status (status_of c.bridge.control)
+      → length (host_words es) ≡ 2 → told_of (start_by x) o (sdo_in layouts c es) ≡ Some (Status (status_of c.bridge.control))
   unfolding concluded pick
   status_back o h a e b l =
       let ph : phase_of c ≡ Answering (StatusReply (status_of c.bridge.control)) (start_by x) =
       a.answer_is ∙ status_due x o n c.bridge.control e ∙ rw b refl in
       let g = status_run (host_words es) es c _ (start_by x) a.obeys ph u refl l in
-      sym (tells_status (start_by x) o (sdo_in layouts c es) (due_of o) refl true (sym (due o n h) ∙ e) (sym (is_answer_lem (start_by x) 1 _ _ g)) refl) ∙ rw g.sdo_is refl
+      sym (tells_status (start_by x) o (sdo_in layouts c es) (due_of o) refl true (sym (due o n h) ∙ ap (λ (d : Due). Some d) e) (sym (is_answer_lem (start_by x) 1 _ _ g)) refl) ∙ rw g.sdo_is refl
 
   no_status_back : (o : Order) → Answers x (meant o n) c → answer_of o ≡ StatusDue → bit 0 c.bridge.control.regs.spictrl ≡ true
       → phase_of c ≡ Idle
@@ -130,9 +129,9 @@ module _ (x : Bool) (n : ℕ) (c : Config) (es : List Event) (u : unbroken es �
     data_given SoftResetCrc h a e = not_data count e
 
     module _ (o : Order) (h : within o n ≡ true) (a : Answers x (meant o n) c) (e : answer_of o ≡ DataDue count) where
-      told_back : told_of (start_by x) o (sdo_in layouts c es) ≡ Data count
+      told_back : told_of (start_by x) o (sdo_in layouts c es) ≡ Some (Data count)
       told_back =
-          sym (tells_data (start_by x) o (sdo_in layouts c es) (due_of o) refl true count (sym (due o n h) ∙ e) (sym (is_answer_lem (start_by x) count _ _ (data_given o h a e))) refl)
+          sym (tells_data (start_by x) o (sdo_in layouts c es) (due_of o) refl true count (sym (due o n h) ∙ ap (λ (d : Due). Some d) e) (sym (is_answer_lem (start_by x) count _ _ (data_given o h a e))) refl)
 
       data_back : take count (sdo_in layouts c es) ≡ data_at o (found_by layouts c es)
       data_back = let g = data_given o h a e in rw g.sdo_is (take_at (data_at o (found_by layouts c es)) _ count g.so_many)

@@ -1,4 +1,5 @@
 -- Numbers: frames of 01, 02 and 001, and what is none.
+use Rattle.std.specs.Prelude.{None, Some, Ok, Err}
 use mathlib.Core.Path.{◌≡◌, refl}
 use mathlib.Core.Bool.{true, false}
 use mathlib.Core.List.{List, [], ◌∷◌}
@@ -19,8 +20,8 @@ use Rattle.frames.specs.Answers.{is_answer, due_of, told_by, told_of}
 use Rattle.frames.specs.Frames.{frame_of, out, written_of}
 use Rattle.frames.specs.Orders.{within, command_word}
 use Rattle.frames.specs.declared.Order.TheVariants.{FwdWrCrc, FwdWrEndCrc, FwdWrEnd, DataRdCrc, RegRdCrc, SoftResetCrc}
-use Rattle.frames.specs.declared.Told.TheVariants.{Status, Data, Refused}
-use Rattle.frames.specs.declared.Written.TheVariants.{Frame, OutsideLimits, BufferShort}
+use Rattle.frames.specs.declared.Told.TheVariants.{Status, Data}
+use Rattle.frames.specs.declared.WriteError.TheVariants.{OutsideLimits, BufferShort}
 use Rattle.frames_found.specs.Found.{Awaits}
 use Rattle.frames_found.specs.Frames.{is_command}
 
@@ -30,15 +31,15 @@ unfolding crc_from crc_word crc_bits crc_bit shift high_first bit odd val
 vsync = refl
 
 -- in a buffer of four cells, three, two; and with no words, whatever the buffer
-with_room : written_of Ours start FwdWrCrc (0xAAF0 ∷ []) (1 ∷ 2 ∷ 3 ∷ 4 ∷ []) ≡ out (Frame 3) (0x2000 ∷ 0xAAF0 ∷ 0xAE24 ∷ 4 ∷ [])
+with_room : written_of Ours start FwdWrCrc (0xAAF0 ∷ []) (1 ∷ 2 ∷ 3 ∷ 4 ∷ []) ≡ out (Ok 3) (0x2000 ∷ 0xAAF0 ∷ 0xAE24 ∷ 4 ∷ [])
 unfolding written_of pick crc_from crc_word crc_bits crc_bit shift high_first bit odd val
 with_room = refl
 
-just_short : written_of Ours start FwdWrCrc (0xAAF0 ∷ []) (1 ∷ 2 ∷ []) ≡ out BufferShort (1 ∷ 2 ∷ [])
+just_short : written_of Ours start FwdWrCrc (0xAAF0 ∷ []) (1 ∷ 2 ∷ []) ≡ out (Err BufferShort) (1 ∷ 2 ∷ [])
 unfolding written_of pick
 just_short = refl
 
-no_words_first : written_of Ours start FwdWrCrc [] [] ≡ out OutsideLimits []
+no_words_first : written_of Ours start FwdWrCrc [] [] ≡ out (Err OutsideLimits) []
 unfolding written_of pick
 no_words_first = refl
 
@@ -100,20 +101,20 @@ unfolding crc_from crc_word crc_bits crc_bit shift high_first bit odd val
 reset_xmodem = refl
 
 -- STATUS at power-up and its CRC (docs/HOST-GUIDE.md 2); the same words are data of a read of one word; one bit turned is neither
-status : told_of start FwdWrCrc (0x0400 ∷ 0xD1CB ∷ []) ≡ Status 0x0400
+status : told_of start FwdWrCrc (0x0400 ∷ 0xD1CB ∷ []) ≡ Some (Status 0x0400)
 unfolding told_of due_of told_by is_answer pick crc_from crc_word crc_bits crc_bit shift high_first bit odd val
 status = refl
 
-one_word : told_of start (RegRdCrc 7 1) (0x0400 ∷ 0xD1CB ∷ []) ≡ Data 1
+one_word : told_of start (RegRdCrc 7 1) (0x0400 ∷ 0xD1CB ∷ []) ≡ Some (Data 1)
 unfolding told_of due_of told_by is_answer pick crc_from crc_word crc_bits crc_bit shift high_first bit odd val
 one_word = refl
 
-turned : told_of start FwdWrCrc (0x0401 ∷ 0xD1CB ∷ []) ≡ Refused
+turned : told_of start FwdWrCrc (0x0401 ∷ 0xD1CB ∷ []) ≡ None
 unfolding told_of due_of told_by is_answer pick crc_from crc_word crc_bits crc_bit shift high_first bit odd val
 turned = refl
 
 -- an order outside the limits has no answer
-too_many : told_of start (DataRdCrc 257) (0x0400 ∷ 0xD1CB ∷ []) ≡ Refused
+too_many : told_of start (DataRdCrc 257) (0x0400 ∷ 0xD1CB ∷ []) ≡ None
 unfolding told_of due_of told_by pick
 too_many = refl
 

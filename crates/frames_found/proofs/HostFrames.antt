@@ -1,4 +1,5 @@
 -- The theorems behind what was asked of the host's frames. Assumes nothing.
+use Rattle.std.specs.Prelude.{Ok}
 use mathlib.Core.Path.{◌≡◌, refl, sym}
 use mathlib.Core.Bool.{true, ◌&&◌}
 use mathlib.Core.List.{List}
@@ -14,7 +15,6 @@ use Rattle.frames.specs.Orders.{fields_within, within}
 use Rattle.frames.specs.Frames.{beside, frame_of, over, out, written_of}
 use Rattle.frames.specs.declared.Order.{Order}
 use Rattle.frames.specs.declared.Order.TheVariants.{FwdWrCrc, FwdWr, FwdWrEndCrc, FwdWrEnd, FwdRdEndCrc, FwdRdEnd, DataRdCrc, DataRd, RegWrCrc, RegWr, RegRdCrc, RegRd, SoftResetCrc}
-use Rattle.frames.specs.declared.Written.TheVariants.{Frame}
 use Rattle.frames_found.specs.HostFrames.{SomeWords, HostFrames}
 use Rattle.frames_found.proofs.Answered.{reads_back}
 use Rattle.frames_found.proofs.Decoding.{decodes}
@@ -26,7 +26,7 @@ use Rattle.frames_found.proofs.Ruled.{ruled}
 use Rattle.frames_found.proofs.Silence.{silent}
 
 written : (k : Layout) (s : ℕ) (o : Order) (words buffer : List ℕ) → within o (length words) ≡ true → length words + beside ≤ length buffer
-    → out (Frame (length words + beside)) (over (frame_of k s o words) buffer) ≡ written_of k s o words buffer
+    → out (Ok (length words + beside)) (over (frame_of k s o words) buffer) ≡ written_of k s o words buffer
 unfolding written_of
 written k s o words buffer h m = pick_true _ _ _ _ h (pick_true _ _ _ _ (le-leb _ _ m) refl)
 

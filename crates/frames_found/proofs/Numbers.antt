@@ -1,4 +1,5 @@
 -- One order is one row of numbers. Assumes nothing.
+use Rattle.std.specs.Prelude.{Option, None, Some}
 use mathlib.Core.Path.{◌≡◌, refl, sym, ◌∙◌, subst}
 use mathlib.Core.Bool.{true, ◌&&◌}
 use Prim.Native.Nat.{ℕ, zero, suc}
@@ -6,8 +7,6 @@ use lib.Dec.{eqb}
 use borrow.Author.Tests.{eqb-true}
 use Rattle.base.specs.Pick.{pick, pick_keeps, and_l, and_r}
 use Rattle.frames.specs.Orders.{number_of, rows, order_of}
-use Rattle.frames.specs.declared.Named.{Named}
-use Rattle.frames.specs.declared.Named.TheVariants.{Unknown, Known}
 use Rattle.frames.specs.declared.Order.{Order}
 use Rattle.frames.specs.declared.Order.TheVariants.{FwdWrCrc, FwdWr, FwdWrEndCrc, FwdWrEnd, FwdRdEndCrc, FwdRdEnd, DataRdCrc, DataRd, RegWrCrc, RegWr, RegRdCrc, RegRd, SoftResetCrc}
 use Rattle.frames_found.specs.HostFrames.{Numbers}
@@ -38,9 +37,9 @@ abbrev count_of : Order → ℕ
 count_of o = (fields_of o).1.1
 
 -- the numbers are those of what they name
-abbrev Back : ℕ → ℕ → ℕ → ℕ → Named → Type 0
-Back n e a c Unknown = Unit {0}
-Back n e a c (Known o) = ((n ≡ number_of o) × (e ≡ ends_of o)) × ((a ≡ address_of o) × (c ≡ count_of o))
+abbrev Back : ℕ → ℕ → ℕ → ℕ → Option Order → Type 0
+Back n e a c None = Unit {0}
+Back n e a c (Some o) = ((n ≡ number_of o) × (e ≡ ends_of o)) × ((a ≡ address_of o) × (c ≡ count_of o))
 
 module _ (e a c : ℕ) where
   zero_is : (n : ℕ) → eqb n 0 ≡ true → n ≡ 0
@@ -48,7 +47,7 @@ module _ (e a c : ℕ) where
 
   -- three fields that must be 0, two, one
   none : (n : ℕ) (o : Order) → (n ≡ number_of o) → (ends_of o ≡ 0) → (address_of o ≡ 0) → (count_of o ≡ 0)
-      → Back n e a c (pick (eqb e 0 && eqb a 0 && eqb c 0) (Known o) Unknown)
+      → Back n e a c (pick (eqb e 0 && eqb a 0 && eqb c 0) (Some o) None)
   none n o k p q r =
       pick_keeps (Back n e a c) (eqb e 0 && eqb a 0 && eqb c 0) _ _
       (λ t. (
@@ -61,28 +60,28 @@ module _ (e a c : ℕ) where
       (λ t. tt)
 
   of_ends : (n : ℕ) (o : Order) → (n ≡ number_of o) → (e ≡ ends_of o) → (address_of o ≡ 0) → (count_of o ≡ 0)
-      → Back n e a c (pick (eqb a 0 && eqb c 0) (Known o) Unknown)
+      → Back n e a c (pick (eqb a 0 && eqb c 0) (Some o) None)
   of_ends n o k p q r =
       pick_keeps (Back n e a c) (eqb a 0 && eqb c 0) _ _
       (λ t. ((k, p), (zero_is a (and_l (eqb a 0) (eqb c 0) t) ∙ sym q, zero_is c (and_r (eqb a 0) (eqb c 0) t) ∙ sym r)))
       (λ t. tt)
 
   of_count : (n : ℕ) (o : Order) → (n ≡ number_of o) → (ends_of o ≡ 0) → (address_of o ≡ 0) → (c ≡ count_of o)
-      → Back n e a c (pick (eqb e 0 && eqb a 0) (Known o) Unknown)
+      → Back n e a c (pick (eqb e 0 && eqb a 0) (Some o) None)
   of_count n o k p q r =
       pick_keeps (Back n e a c) (eqb e 0 && eqb a 0) _ _
       (λ t. ((k, zero_is e (and_l (eqb e 0) (eqb a 0) t) ∙ sym p), (zero_is a (and_r (eqb e 0) (eqb a 0) t) ∙ sym q, r)))
       (λ t. tt)
 
   of_address : (n : ℕ) (o : Order) → (n ≡ number_of o) → (ends_of o ≡ 0) → (a ≡ address_of o) → (count_of o ≡ 0)
-      → Back n e a c (pick (eqb e 0 && eqb c 0) (Known o) Unknown)
+      → Back n e a c (pick (eqb e 0 && eqb c 0) (Some o) None)
   of_address n o k p q r =
       pick_keeps (Back n e a c) (eqb e 0 && eqb c 0) _ _
       (λ t. ((k, zero_is e (and_l (eqb e 0) (eqb c 0) t) ∙ sym p), (q, zero_is c (and_r (eqb e 0) (eqb c 0) t) ∙ sym r)))
       (λ t. tt)
 
   of_span : (n : ℕ) (o : Order) → (n ≡ number_of o) → (ends_of o ≡ 0) → (a ≡ address_of o) → (c ≡ count_of o)
-      → Back n e a c (pick (eqb e 0) (Known o) Unknown)
+      → Back n e a c (pick (eqb e 0) (Some o) None)
   of_span n o k p q r = pick_keeps (Back n e a c) (eqb e 0) _ _ (λ t. ((k, zero_is e t ∙ sym p), (q, r))) (λ t. tt)
 
   back : (n : ℕ) → Back n e a c (order_of n e a c)
@@ -105,7 +104,7 @@ module _ (e a c : ℕ) where
   back (suc (suc (suc (suc (suc (suc (suc (suc (suc (suc (suc (suc (suc (suc (suc n))))))))))))))) = tt
 
 -- an order by its numbers
-named : (o : Order) → order_of (number_of o) (ends_of o) (address_of o) (count_of o) ≡ Known o
+named : (o : Order) → order_of (number_of o) (ends_of o) (address_of o) (count_of o) ≡ Some o
 unfolding order_of rows pick
 named FwdWrCrc = refl
 named FwdWr = refl

@@ -1,4 +1,5 @@
 -- What is refused, and that nothing else is told. Assumes nothing.
+use Rattle.std.specs.Prelude.{Option, None, Some, Err}
 use mathlib.Core.Path.{◌≡◌, refl, sym, ◌∙◌, ap, ap₂, subst}
 use mathlib.Core.Bool.{true, false}
 use mathlib.Core.List.{List, [], ◌∷◌, ◌++◌}
@@ -15,26 +16,26 @@ use Rattle.frames.specs.Answers.{is_answer, answer_of, due_of, told_by, told_of}
 use Rattle.frames.specs.Frames.{beside, checked, out, written_of}
 use Rattle.frames.specs.Orders.{fields_within, words_within, within, meant}
 use Rattle.frames.specs.declared.Due.{Due}
-use Rattle.frames.specs.declared.Due.TheVariants.{Nothing, StatusDue, DataDue}
+use Rattle.frames.specs.declared.Due.TheVariants.{StatusDue, DataDue}
 use Rattle.frames.specs.declared.Order.{Order}
 use Rattle.frames.specs.declared.Order.TheVariants.{FwdWrCrc, FwdWr, FwdWrEndCrc, FwdWrEnd, FwdRdEndCrc, FwdRdEnd, DataRdCrc, DataRd, RegWrCrc, RegWr, RegRdCrc, RegRd, SoftResetCrc}
 use Rattle.frames.specs.declared.Told.{Told}
-use Rattle.frames.specs.declared.Told.TheVariants.{Status, Data, Refused}
-use Rattle.frames.specs.declared.Written.TheVariants.{OutsideLimits, BufferShort}
+use Rattle.frames.specs.declared.Told.TheVariants.{Status, Data}
+use Rattle.frames.specs.declared.WriteError.TheVariants.{OutsideLimits, BufferShort}
 use Rattle.frames_found.specs.Answered.{answered_with}
 use Rattle.frames_found.specs.HostFrames.{Exactly}
 
 module _ (k : Layout) (s : ℕ) (o : Order) (words buffer : List ℕ) where
-  pub outside : within o (length words) ≡ false → written_of k s o words buffer ≡ out OutsideLimits buffer
+  pub outside : within o (length words) ≡ false → written_of k s o words buffer ≡ out (Err OutsideLimits) buffer
   unfolding written_of
   outside h = sym (pick_false _ _ _ _ h refl)
 
-  pub short : within o (length words) ≡ true → length buffer < length words + beside → written_of k s o words buffer ≡ out BufferShort buffer
+  pub short : within o (length words) ≡ true → length buffer < length words + beside → written_of k s o words buffer ≡ out (Err BufferShort) buffer
   unfolding written_of
   short h m = sym (pick_true _ _ _ _ h (pick_false _ _ _ _ (lt-leb _ _ m) refl))
 
 -- the answer is due that the bridge gives to the command
-given_to : (o : Order) (n : ℕ) → answer_of o ≡ answered_with (meant o n)
+given_to : (o : Order) (n : ℕ) → Some (answer_of o) ≡ answered_with (meant o n)
 given_to FwdWrCrc n = refl
 given_to FwdWr n = refl
 given_to (FwdWrEndCrc ends) n = refl
@@ -70,24 +71,24 @@ exactly s n words t =
     }
 
 -- what is told says which answer it is
-abbrev Right : ℕ → List ℕ → Told → Type 0
-Right s words (Status value) = Exactly s 1 words × (get_or words 0 0 ≡ value)
-Right s words (Data count) = Exactly s count words
-Right s words Refused = Unit {0}
+abbrev Right : ℕ → List ℕ → Option Told → Type 0
+Right s words (Some (Status value)) = Exactly s 1 words × (get_or words 0 0 ≡ value)
+Right s words (Some (Data count)) = Exactly s count words
+Right s words None = Unit {0}
 
-right_by : (s : ℕ) (d : Due) (words : List ℕ) → Right s words (told_by s d words)
+right_by : (s : ℕ) (d : Option Due) (words : List ℕ) → Right s words (told_by s d words)
 unfolding told_by
-right_by s Nothing words = tt
-right_by s StatusDue words = pick_keeps (Right s words) (is_answer s 1 words) _ _ (λ t. (exactly s 1 words t, refl)) (λ t. tt)
-right_by s (DataDue count) words = pick_keeps (Right s words) (is_answer s count words) _ _ (λ t. exactly s count words t) (λ t. tt)
+right_by s None words = tt
+right_by s (Some StatusDue) words = pick_keeps (Right s words) (is_answer s 1 words) _ _ (λ t. (exactly s 1 words t, refl)) (λ t. tt)
+right_by s (Some (DataDue count)) words = pick_keeps (Right s words) (is_answer s count words) _ _ (λ t. exactly s count words t) (λ t. tt)
 
 right : (s : ℕ) (o : Order) (words : List ℕ) → Right s words (told_of s o words)
 unfolding told_of
 right s o words = right_by s (due_of o) words
 
-pub status_right : (s : ℕ) (o : Order) (words : List ℕ) (value : ℕ) → told_of s o words ≡ Status value → words ≡ checked s (value ∷ [])
+pub status_right : (s : ℕ) (o : Order) (words : List ℕ) (value : ℕ) → told_of s o words ≡ Some (Status value) → words ≡ checked s (value ∷ [])
 status_right s o words value e =
-    let r : Right s words (Status value) = subst (Right s words) e (right s o words) in
+    let r : Right s words (Some (Status value)) = subst (Right s words) e (right s o words) in
     status_of_lem words value r.0 r.1
   where
     status_of_lem : (words : List ℕ) (value : ℕ) → Exactly s 1 words → get_or words 0 0 ≡ value → words ≡ checked s (value ∷ [])
@@ -98,5 +99,5 @@ status_right s o words value e =
         one (g ∷ []) l w = let same : g ≡ value = sym (ap (λ (xs : List ℕ). get_or xs 0 0) w) ∙ v in w ∙ ap (λ (y : ℕ). checked s (y ∷ [])) same
         one (g ∷ (h ∷ gs)) l w = absurd (omega (arith, l))
 
-pub data_right : (s : ℕ) (o : Order) (words : List ℕ) (count : ℕ) → told_of s o words ≡ Data count → Exactly s count words
+pub data_right : (s : ℕ) (o : Order) (words : List ℕ) (count : ℕ) → told_of s o words ≡ Some (Data count) → Exactly s count words
 data_right s o words count e = subst (Right s words) e (right s o words)

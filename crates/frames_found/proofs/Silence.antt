@@ -1,4 +1,5 @@
 -- Words of 0xFFFF alone are no answer, by either CRC. Assumes nothing.
+use Rattle.std.specs.Prelude.{Option, None, Some}
 use mathlib.Core.Path.{◌≡◌, refl, sym, ◌∙◌, ap}
 use mathlib.Core.Bool.{Bool, true, false, not, ◌&&◌}
 use mathlib.Core.List.{List, ◌∷◌}
@@ -15,10 +16,9 @@ use Rattle.command.specs.Layouts.{start_by}
 use Rattle.frames.specs.Answers.{is_answer, answer_of, due_of, told_by, told_of}
 use Rattle.frames.specs.Orders.{fields_within}
 use Rattle.frames.specs.declared.Due.{Due}
-use Rattle.frames.specs.declared.Due.TheVariants.{Nothing, StatusDue, DataDue}
+use Rattle.frames.specs.declared.Due.TheVariants.{StatusDue, DataDue}
 use Rattle.frames.specs.declared.Order.{Order}
 use Rattle.frames.specs.declared.Order.TheVariants.{FwdWrCrc, FwdWr, FwdWrEndCrc, FwdWrEnd, FwdRdEndCrc, FwdRdEnd, DataRdCrc, DataRd, RegWrCrc, RegWr, RegRdCrc, RegRd, SoftResetCrc}
-use Rattle.frames.specs.declared.Told.TheVariants.{Refused}
 use Rattle.frames_found.specs.Silence.{Silent}
 
 -- the CRC of one word of 1s more, so many times, is never 0xFFFF
@@ -67,13 +67,13 @@ module _ (s : ℕ) (all : others 256 s ≡ true) (n : ℕ) where
           ap (λ (xs : List ℕ). crc_from s xs) (sym (take_ones (suc k) n (omega arith)))
           ∙ sym (eqb-true (get_or words (suc k) 0) _ (and_r (eqb (length words) (suc k + 1)) _ t)) ∙ get_or-replicate n (suc k) all_ones 0 m
 
-  none_told : (count : ℕ) → (leb 1 count && leb count 256) ≡ true → told_by s (DataDue count) (replicate n all_ones) ≡ Refused
+  none_told : (count : ℕ) → (leb 1 count && leb count 256) ≡ true → told_by s (Some (DataDue count)) (replicate n all_ones) ≡ None
   unfolding told_by pick
   none_told zero h = absurd (omega (arith, leb-true 1 0 (and_l (leb 1 0) (leb 0 256) h)))
   none_told (suc k) h =
       let b = leb-true (suc k) 256 (and_r (leb 1 (suc k)) (leb (suc k) 256) h) in rw (no_answer k (omega (arith, b)))
 
-  no_status : told_by s StatusDue (replicate n all_ones) ≡ Refused
+  no_status : told_by s (Some StatusDue) (replicate n all_ones) ≡ None
   unfolding told_by pick
   no_status = rw (no_answer 0 (omega arith))
 
@@ -82,7 +82,7 @@ module _ (s : ℕ) (all : others 256 s ≡ true) (n : ℕ) where
       let b = leb-true (address + count) registers_end (and_r (leb 1 count) (leb (address + count) registers_end) h) in
       and_both (leb 1 count) (leb count 256) (and_l (leb 1 count) (leb (address + count) registers_end) h) (le-leb count 256 (omega (arith, b)))
 
-  silent_due : (o : Order) → fields_within o ≡ true → told_by s (answer_of o) (replicate n all_ones) ≡ Refused
+  silent_due : (o : Order) → fields_within o ≡ true → told_by s (Some (answer_of o)) (replicate n all_ones) ≡ None
   silent_due FwdWrCrc h = no_status
   silent_due FwdWr h = no_status
   silent_due (FwdWrEndCrc ends) h = no_status
@@ -100,5 +100,5 @@ module _ (s : ℕ) (all : others 256 s ≡ true) (n : ℕ) where
 pub silent : Silent
 unfolding told_of due_of told_by
 silent xmodem o n =
-    pick_keeps (λ (d : Due). told_by (start_by xmodem) d (replicate n all_ones) ≡ Refused) (fields_within o) (answer_of o) Nothing
+    pick_keeps (λ (d : Option Due). told_by (start_by xmodem) d (replicate n all_ones) ≡ None) (fields_within o) (Some (answer_of o)) None
     (silent_due (start_by xmodem) (to_the_longest xmodem) n o) (λ t. refl)

@@ -1,5 +1,5 @@
 -- What the bridge answers to an order, and that it reads back as such (02 item 1, "read the answer back as STATUS or data"). Assumes nothing.
-use Rattle.std.specs.Prelude.{◌≡◌, true, false, List, [], ◌∷◌, map, ℕ, ◌+◌, eqb, length, take}
+use Rattle.std.specs.Prelude.{◌≡◌, true, false, List, [], ◌∷◌, map, ℕ, ◌+◌, eqb, length, take, Option, None, Some}
 use Rattle.base.specs.Bits.{bit}
 use Rattle.base.specs.Pick.{pick}
 use Rattle.command.specs.Layouts.{Layouts, layouts}
@@ -14,7 +14,7 @@ use Rattle.bridge.specs.Runs.{Config}
 use Rattle.order.specs.Framed.{host_words}
 use Rattle.frames.specs.Answers.{answer_of, told_of}
 use Rattle.frames.specs.declared.Due.{Due}
-use Rattle.frames.specs.declared.Due.TheVariants.{Nothing, StatusDue, DataDue}
+use Rattle.frames.specs.declared.Due.TheVariants.{StatusDue, DataDue}
 use Rattle.frames.specs.declared.Order.{Order}
 use Rattle.frames.specs.declared.Order.TheVariants.{FwdWrCrc, FwdWr, FwdWrEndCrc, FwdWrEnd, FwdRdEndCrc, FwdRdEnd, DataRdCrc, DataRd, RegWrCrc, RegWr, RegRdCrc, RegRd, SoftResetCrc}
 use Rattle.frames.specs.declared.Told.TheVariants.{Status, Data}
@@ -62,21 +62,21 @@ data_at (RegRd address count) cs = registers_at address (take count cs)
 data_at SoftResetCrc cs = []
 
 -- what the bridge answers a command with: "FWD, REG_WR and reset answer STATUS", "Reads answer the words" (01 Frames)
-abbrev pub answered_with : Command → Due
-answered_with Filler = Nothing
-answered_with Malformed = Nothing
-answered_with (Forward crc words ends reads) = StatusDue
-answered_with (DataRead crc words) = DataDue words
-answered_with (RegisterWrite crc address count) = StatusDue
-answered_with (RegisterRead crc address count) = DataDue count
-answered_with SoftReset = StatusDue
+abbrev pub answered_with : Command → Option Due
+answered_with Filler = None
+answered_with Malformed = None
+answered_with (Forward crc words ends reads) = Some StatusDue
+answered_with (DataRead crc words) = Some (DataDue words)
+answered_with (RegisterWrite crc address count) = Some StatusDue
+answered_with (RegisterRead crc address count) = Some (DataDue count)
+answered_with SoftReset = Some StatusDue
 
 -- c is as the frame's CRC word left it, and es brings as many host words as the answer has; s is where the frame's CRC started, and so its answer's: "the next
 -- SPI command uses the new algorithm" (001 7.5.3), also where the frame itself changed it. "unless SPICTRL bit 0 is 1" (01 Frames).
 pub record ReadsBack (s : ℕ) (o : Order) (c : Config) (es : List Event) : Type 0 where
   -- "STATUS and its CRC .. taken at the CRC word after its effects"
   pub status : answer_of o ≡ StatusDue → bit 0 c.bridge.control.regs.spictrl ≡ false → length (host_words es) ≡ 2
-      → told_of s o (sdo_in layouts c es) ≡ Status (status_of c.bridge.control)
+      → told_of s o (sdo_in layouts c es) ≡ Some (Status (status_of c.bridge.control))
   pub no_status : answer_of o ≡ StatusDue → bit 0 c.bridge.control.regs.spictrl ≡ true → c.bridge.frame.phase ≡ Idle
-  pub data_told : (count : ℕ) → answer_of o ≡ DataDue count → length (host_words es) ≡ count + 1 → told_of s o (sdo_in layouts c es) ≡ Data count
+  pub data_told : (count : ℕ) → answer_of o ≡ DataDue count → length (host_words es) ≡ count + 1 → told_of s o (sdo_in layouts c es) ≡ Some (Data count)
   pub data_is : (count : ℕ) → answer_of o ≡ DataDue count → length (host_words es) ≡ count + 1 → take count (sdo_in layouts c es) ≡ data_at o (found_by layouts c es)

@@ -2,7 +2,7 @@
 -- `s` where the CRC starts. Read this file from top to bottom; `proofs/HostFrames.antt` cites the theorem behind each. `within`, `frame_of`, `written_of` and
 -- `told_of` are crates/frames/specs, and the contracts of `frames::write` and `frames::read_answer` say that the code does what `written_of` and `told_of` say, for
 -- every input. Assumes nothing.
-use Rattle.std.specs.Prelude.{◌≡◌, true, false, List, [], ◌∷◌, ◌++◌, ℕ, ◌+◌, ◌≤◌, ◌<◌, length}
+use Rattle.std.specs.Prelude.{◌≡◌, true, false, List, [], ◌∷◌, ◌++◌, ℕ, ◌+◌, ◌≤◌, ◌<◌, length, Some, Ok, Err}
 use Rattle.layout.specs.declared.Layout.{Layout}
 use Rattle.command.specs.Layout.{decode_by}
 use Rattle.command.specs.Layouts.{Layouts, layouts}
@@ -14,10 +14,9 @@ use Rattle.order.specs.Framed.{host_words}
 use Rattle.frames.specs.Answers.{due_of, told_of}
 use Rattle.frames.specs.Orders.{number_of, fields_within, within, command_word, meant, order_of}
 use Rattle.frames.specs.Frames.{checked, beside, frame_of, over, out, written_of}
-use Rattle.frames.specs.declared.Named.TheVariants.{Known}
 use Rattle.frames.specs.declared.Order.{Order}
 use Rattle.frames.specs.declared.Told.TheVariants.{Status, Data}
-use Rattle.frames.specs.declared.Written.TheVariants.{Frame, OutsideLimits, BufferShort}
+use Rattle.frames.specs.declared.WriteError.TheVariants.{OutsideLimits, BufferShort}
 use Rattle.frames_found.specs.Answered.{answered_with, ReadsBack}
 use Rattle.frames_found.specs.Found.{part_of, Ruled, start_in, frame_in, Awaits, unbroken, Found}
 use Rattle.frames_found.specs.Frames.{WellFormed, OneWay}
@@ -28,8 +27,8 @@ pub record Numbers (o : Order) : Type 0 where
   pub ends : ℕ
   pub address : ℕ
   pub count : ℕ
-  pub is : order_of (number_of o) ends address count ≡ Known o
-  pub only : (n e a c : ℕ) → order_of n e a c ≡ Known o → ((n ≡ number_of o) × (e ≡ ends)) × ((a ≡ address) × (c ≡ count))
+  pub is : order_of (number_of o) ends address count ≡ Some o
+  pub only : (n e a c : ℕ) → order_of n e a c ≡ Some o → ((n ≡ number_of o) × (e ≡ ends)) × ((a ≡ address) × (c ≡ count))
 
 -- a number of data words that an order takes
 pub record SomeWords (o : Order) : Type 0 where
@@ -46,11 +45,11 @@ pub record HostFrames : Type 0 where
   -- "Every command that 01 allows can be written": by its numbers too, and in a buffer with room for it.
   pub numbered : (o : Order) → Numbers o
   pub written : (k : Layout) (s : ℕ) (o : Order) (words buffer : List ℕ) → within o (length words) ≡ true → length words + beside ≤ length buffer
-      → written_of k s o words buffer ≡ out (Frame (length words + beside)) (over (frame_of k s o words) buffer)
+      → written_of k s o words buffer ≡ out (Ok (length words + beside)) (over (frame_of k s o words) buffer)
   -- "Refusals: 20 command outside 01's limits .., 21 buffer too short, in that order, buffer untouched."
-  pub outside : (k : Layout) (s : ℕ) (o : Order) (words buffer : List ℕ) → within o (length words) ≡ false → written_of k s o words buffer ≡ out OutsideLimits buffer
+  pub outside : (k : Layout) (s : ℕ) (o : Order) (words buffer : List ℕ) → within o (length words) ≡ false → written_of k s o words buffer ≡ out (Err OutsideLimits) buffer
   pub short : (k : Layout) (s : ℕ) (o : Order) (words buffer : List ℕ) → within o (length words) ≡ true → length buffer < length words + beside
-      → written_of k s o words buffer ≡ out BufferShort buffer
+      → written_of k s o words buffer ≡ out (Err BufferShort) buffer
   -- ".. and the bridge's reader finds that same command": its decoding does, of the command word, and the frame has that command's data words and a right CRC word.
   pub decodes : (k : Layout) (o : Order) (n : ℕ) → within o n ≡ true → decode_by k (command_word k o n) ≡ meant o n
   pub well_formed : (k : Layout) (s : ℕ) (o : Order) (words : List ℕ) → within o (length words) ≡ true → WellFormed k s (frame_of k s o words)
@@ -69,8 +68,8 @@ pub record HostFrames : Type 0 where
       → ReadsBack (start_in c.bridge.control.regs) o (end_of layouts c (es ++ (Word w ∷ []))) after
   -- ".. or an answer of wrong length or CRC": what is told is an answer of the right length and CRC, of the kind that the bridge gives to the command.
   pub due_is : (o : Order) (n : ℕ) → within o n ≡ true → due_of o ≡ answered_with (meant o n)
-  pub status_right : (s : ℕ) (o : Order) (words : List ℕ) (value : ℕ) → told_of s o words ≡ Status value → words ≡ checked s (value ∷ [])
-  pub data_right : (s : ℕ) (o : Order) (words : List ℕ) (count : ℕ) → told_of s o words ≡ Data count → Exactly s count words
+  pub status_right : (s : ℕ) (o : Order) (words : List ℕ) (value : ℕ) → told_of s o words ≡ Some (Status value) → words ≡ checked s (value ∷ [])
+  pub data_right : (s : ℕ) (o : Order) (words : List ℕ) (count : ℕ) → told_of s o words ≡ Some (Data count) → Exactly s count words
   -- An order whose fields are within their limits has a number of words with which it is written; the reader of answers refuses the others.
   pub answerable : (o : Order) → fields_within o ≡ true → SomeWords o
   -- Words of 1s alone are no answer.

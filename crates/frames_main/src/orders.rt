@@ -3,7 +3,7 @@ ghost use Rattle.std.specs.Prelude.{◌≤◌, length};
 
 use crate::out::print;
 use crate::reasons::due;
-use frames::{Named, Order, Told, Written};
+use frames::{Order, Told};
 use layout::Layout;
 use order_lines::{
     Fields, Items, NO_ADDRESS, NO_COUNT, NO_CRC, NO_ENDS, NO_NAME, NONE, NOT_WRITTEN, NOTHING,
@@ -41,15 +41,14 @@ fn framed(rt: &impl Print, layout: usize, order: Order, words: &[u16], shown: bo
     let mut frame = [0u16; 4098];
     let start = start_of(layout);
     match frames::write(layout_of(layout), start, order, words, &mut frame) {
-        Written::Frame(length) => {
+        Ok(length) => {
             let n = length as usize;
             if 4098 < n {
                 return NOT_WRITTEN;
             }
             print(rt, b"", &frame[0..n], 1, shown)
         }
-        Written::OutsideLimits => OUTSIDE,
-        Written::BufferShort => OUTSIDE,
+        Err(_) => OUTSIDE,
     }
 }
 
@@ -59,10 +58,7 @@ fn fits(order: Order, count: usize) -> bool
 {
     let word = [0u16; 1];
     let mut frame = [0u16; 3];
-    match frames::write(Layout::Ours, 0, order, &word[0..count], &mut frame) {
-        Written::Frame(_) => true,
-        _ => false,
-    }
+    frames::write(Layout::Ours, 0, order, &word[0..count], &mut frame).is_ok()
 }
 
 // Why an answer is refused. Every order within its limits has a frame with no word or with one.
@@ -85,18 +81,18 @@ fn answered(
     requires { length words.now ≤ 4096 }
 {
     match frames::read_answer(start_of(layout), order, words) {
-        Told::Status(word) => {
+        Some(Told::Status(word)) => {
             let status = [word];
             print(rt, b"STATUS", &status, 0, shown)
         }
-        Told::Data(count) => {
+        Some(Told::Data(count)) => {
             let n = count as usize;
             if words.len() < n {
                 return NOT_WRITTEN;
             }
             print(rt, b"data", &words[0..n], 0, shown)
         }
-        Told::Refused => refused(order, due == words.len() as u64),
+        None => refused(order, due == words.len() as u64),
     }
 }
 
@@ -126,12 +122,12 @@ pub fn done(
     let count = (fields[2] % NONE) as u16;
     let layout = name.layout;
     match frames::order_of((name.command % 16) as u16, ends, address, count) {
-        Named::Unknown => if name.from < name.to {
+        None => if name.from < name.to {
             NO_NAME
         } else {
             NOTHING
         },
-        Named::Known(order) => if name.answer {
+        Some(order) => if name.answer {
             let due = due(name.command, fields[2]);
             answered(rt, layout, order, due, &all[0..n], shown)
         } else {

@@ -12,22 +12,21 @@ use answers::answered;
 use closing::crc_due;
 use command::Command;
 use forwards::{forward_begun, forward_word};
-use plan::{Plan, plain};
+use plan::{Plan, collecting, plain};
 use state::{Bridge, Fwd, Note, Phase, Progress};
 use writes::register_word;
 
 fn collects(bridge: Bridge, command: Command, sum: u16) -> Plan
     ensures { result ≡ collects_of bridge command sum }
 {
-    let phase = Phase::Collecting {
-        command: command,
+    let at = Progress {
         got: 0,
         crc: sum,
         mine: 0,
         released: false,
         blocked: false,
     };
-    plain(bridge, phase, Note::Done)
+    plain(bridge, collecting(command, at), Note::Done)
 }
 
 // The command word.
@@ -45,25 +44,17 @@ fn opened(bridge: Bridge, command: Command, sum: u16) -> Plan
         } => forward_begun(
             bridge,
             Fwd {
-                crc: crc,
-                words: words,
-                ends: ends,
-                reads: reads,
+                crc,
+                words,
+                ends,
+                reads,
             },
             sum,
         ),
-        Command::DataRead { crc: _, words: _ } => collects(bridge, command, sum),
-        Command::RegisterWrite {
-            crc: _,
-            address: _,
-            count: _,
-        } => collects(bridge, command, sum),
-        Command::RegisterRead {
-            crc: _,
-            address: _,
-            count: _,
-        } => collects(bridge, command, sum),
-        Command::SoftReset => collects(bridge, command, sum),
+        Command::DataRead { .. }
+        | Command::RegisterWrite { .. }
+        | Command::RegisterRead { .. }
+        | Command::SoftReset => collects(bridge, command, sum),
     }
 }
 
@@ -79,20 +70,23 @@ fn register_data(
     requires { address + at.got < 12 }
     ensures { result ≡ data_word bridge (Command.RegisterWrite crc address count) at word }
 {
-    let got = at.got;
-    let phase = Phase::Collecting {
-        command: Command::RegisterWrite {
-            crc: crc,
-            address: address,
-            count: count,
-        },
-        got: got + 1,
-        crc: at.crc,
-        mine: at.mine,
-        released: at.released,
-        blocked: at.blocked,
+    let command = Command::RegisterWrite {
+        crc,
+        address,
+        count,
     };
-    register_word(bridge, crc, address, got, phase, word)
+    let after = Progress {
+        got: at.got + 1,
+        ..at
+    };
+    register_word(
+        bridge,
+        crc,
+        address,
+        at.got,
+        collecting(command, after),
+        word,
+    )
 }
 
 // A data word; only forwards and register writes have them.
@@ -101,8 +95,6 @@ fn data_word(bridge: Bridge, command: Command, at: Progress, word: u16) -> Plan
     ensures { result ≡ data_word bridge command at word }
 {
     match command {
-        Command::Filler => plain(bridge, Phase::Idle, Note::Done),
-        Command::Malformed => plain(bridge, Phase::Idle, Note::Done),
         Command::Forward {
             crc,
             words,
@@ -111,26 +103,24 @@ fn data_word(bridge: Bridge, command: Command, at: Progress, word: u16) -> Plan
         } => forward_word(
             bridge,
             Fwd {
-                crc: crc,
-                words: words,
-                ends: ends,
-                reads: reads,
+                crc,
+                words,
+                ends,
+                reads,
             },
             at,
             word,
         ),
-        Command::DataRead { crc: _, words: _ } => plain(bridge, Phase::Idle, Note::Done),
         Command::RegisterWrite {
             crc,
             address,
             count,
         } => register_data(bridge, crc, address, count, at, word),
-        Command::RegisterRead {
-            crc: _,
-            address: _,
-            count: _,
-        } => plain(bridge, Phase::Idle, Note::Done),
-        Command::SoftReset => plain(bridge, Phase::Idle, Note::Done),
+        Command::Filler
+        | Command::Malformed
+        | Command::DataRead { .. }
+        | Command::RegisterRead { .. }
+        | Command::SoftReset => plain(bridge, Phase::Idle, Note::Done),
     }
 }
 
@@ -141,8 +131,7 @@ fn collected(bridge: Bridge, command: Command, at: Progress, word: u16) -> Plan
 {
     if state::is_due(command, at.got) {
         let crc = crc16::crc_word(at.crc, word);
-        let mut now = at;
-        now.crc = crc;
+        let now = Progress { crc, ..at };
         return data_word(bridge, command, now, word);
     }
     crc_due(bridge, command, at.mine, at.blocked, word == at.crc)
@@ -154,13 +143,10 @@ pub fn planned(bridge: Bridge, word: u16, rx_oldest: u16) -> Plan
     ensures { result ≡ planned_of layouts bridge word rx_oldest }
 {
     let regs = bridge.control.regs;
-    let layout = regs.layout;
-    let frame = bridge.frame;
-    let phase = frame.phase;
-    match phase {
+    match bridge.frame.phase {
         Phase::Idle => opened(
             bridge,
-            command::decode(layout, word),
+            command::decode(regs.layout, word),
             crc16::crc_word(command::crc_start(registers::is_xmodem(regs)), word),
         ),
         Phase::Collecting {
@@ -172,11 +158,11 @@ pub fn planned(bridge: Bridge, word: u16, rx_oldest: u16) -> Plan
             blocked,
         } => {
             let at = Progress {
-                got: got,
-                crc: crc,
-                mine: mine,
-                released: released,
-                blocked: blocked,
+                got,
+                crc,
+                mine,
+                released,
+                blocked,
             };
             collected(bridge, command, at, word)
         }

@@ -1,4 +1,5 @@
 -- The calls by what their parts answered. Assumes nothing.
+use Rattle.std.specs.Prelude.{Option, None, Some}
 use mathlib.Core.Path.{◌≡◌, refl, sym, ◌∙◌, ap, subst}
 use mathlib.Core.Bool.{Bool, true, false, ◌||◌, ◌&&◌, not}
 use mathlib.Core.List.{List, [], ◌∷◌}
@@ -27,8 +28,6 @@ use Rattle.bridge.specs.Step.{step}
 use Rattle.drain.specs.Drain as Drain
 use Rattle.drain.specs.declared.Drained.{Drained}
 use Rattle.script.specs.Script.{record_of, value_of}
-use Rattle.script.specs.declared.Record.{Record}
-use Rattle.script.specs.declared.Record.TheVariants.{Good, Bad}
 use Rattle.listing.specs.Results.{bit_byte}
 use Rattle.listing.proofs.Records.{to_byte}
 use Rattle.whole_night.specs.Night.{Told, events, wrong, before, events_in, End, end, refused, all_done, tested, judged, night}
@@ -108,35 +107,35 @@ module _ (l : Layouts) (was x tx rx t r : List ℕ) (b : Bridge) (e : Event) (a 
   to_step_leaves ex = ex ∙ rw (← eb, ← eo, ef)
 
 -- an event by its numbers
-module _ (l : Layouts) (m n : Record) (is : m ≡ n) (was tx rx : List ℕ) where
-  module _ (e : Event) (h : m ≡ Good e) where
+module _ (l : Layouts) (m n : Option Event) (is : m ≡ n) (was tx rx : List ℕ) where
+  module _ (e : Event) (h : m ≡ Some e) where
     pub to_event : (k : ℕ) (x t r : List ℕ) → called k x t r ≡ stepped (step l (lent was) tx rx e) was → called k x t r ≡ event_on l n was tx rx
     unfolding event_on
-    to_event k x t r f = f ∙ ap (λ (v : Record). event_on l v was tx rx) (sym h ∙ is)
+    to_event k x t r f = f ∙ ap (λ (v : Option Event). event_on l v was tx rx) (sym h ∙ is)
 
     pub to_event_leaves : (x : List ℕ) → lent x ≡ step_leaves (step l (lent was) tx rx e) (lent was) → lent x ≡ event_leaves l n (lent was) tx rx
     unfolding event_leaves
-    to_event_leaves x f = f ∙ ap (λ (v : Record). event_leaves l v (lent was) tx rx) (sym h ∙ is)
+    to_event_leaves x f = f ∙ ap (λ (v : Option Event). event_leaves l v (lent was) tx rx) (sym h ∙ is)
 
-  module _ (h : m ≡ Bad) where
+  module _ (h : m ≡ None) where
     pub to_no_event : called 0x16FFFF01 was tx rx ≡ event_on l n was tx rx
     unfolding event_on
-    to_no_event = ap (λ (v : Record). event_on l v was tx rx) (sym h ∙ is)
+    to_no_event = ap (λ (v : Option Event). event_on l v was tx rx) (sym h ∙ is)
 
     pub to_event_as_was : lent was ≡ event_leaves l n (lent was) tx rx
     unfolding event_leaves
-    to_event_as_was = ap (λ (v : Record). event_leaves l v (lent was) tx rx) (sym h ∙ is)
+    to_event_as_was = ap (λ (v : Option Event). event_leaves l v (lent was) tx rx) (sym h ∙ is)
 
 -- a list: where all was done, its bytes say how many events it had
 Counted : Told → ℕ → Type 0
 Counted (events es) n = n ≡ length es * 3
 Counted wrong n = Unit {0}
 
-counted_more : (r : Record) (t : Told) (n : ℕ) → Counted t n → Counted (before r t) (suc (suc (suc n)))
+counted_more : (r : Option Event) (t : Told) (n : ℕ) → Counted t n → Counted (before r t) (suc (suc (suc n)))
 unfolding Counted before
-counted_more (Good e) (events es) n h = omega (arith, h)
-counted_more (Good e) wrong n h = tt
-counted_more Bad t n h = tt
+counted_more (Some e) (events es) n h = omega (arith, h)
+counted_more (Some e) wrong n h = tt
+counted_more None t n h = tt
 
 counted : (records : List ℕ) → Counted (events_in records) (length records)
 unfolding Counted events_in

@@ -1,5 +1,6 @@
 -- From `icelichen_power_up` on, calls of `icelichen_event` are a run of the bridge: the same answers, the same state, the same stores, and none is refused.
 -- So demand 3, which is about such runs, holds of what a program in C sends. Assumes nothing.
+use Rattle.std.specs.Prelude.{Option, Some}
 use mathlib.Core.Path.{◌≡◌, refl, sym, ◌∙◌, ap, ap₂}
 use mathlib.Core.Bool.{Bool, true, false}
 use mathlib.Core.List.{List, [], ◌∷◌}
@@ -20,8 +21,6 @@ use Rattle.bridge.specs.Runs.{Config, RightStores, refuses, out_of, next, end_of
 use Rattle.bridge.specs.Step.{refused, step}
 use Rattle.bridge.proofs.Reached.{Obeys, step_obeys, not_refused, power_obeys}
 use Rattle.script.specs.Script.{record_of, power_record}
-use Rattle.script.specs.declared.Record.{Record}
-use Rattle.script.specs.declared.Record.TheVariants.{Good}
 use Rattle.listing.specs.Results.{bit_byte}
 use Rattle.whole_night.specs.Numbered.{config}
 use Rattle.cells.specs.Cells.{record_of as record_at}
@@ -30,17 +29,17 @@ use Rattle.icelichen_bridge.specs.Calls.{Called, called, unless, answer_number, 
 use Rattle.icelichen_bridge.specs.Run.{Lent, stand, Call, PoweredUp, Made, Link, Chained, left_after, events_of, answers_of, answers_in, SameRun}
 
 -- one call
-module _ (a b : Lent) (kind value answer : ℕ) (e : Event) (says : event_by kind value ≡ Good e) (call : Call a kind value answer b) where
+module _ (a b : Lent) (kind value answer : ℕ) (e : Event) (says : event_by kind value ≡ Some e) (call : Call a kind value answer b) where
   pub its_answer : answer ≡ answer_of (out_of layouts (stand a) e).answer
   unfolding event_on out_of
-  its_answer = ap (λ (c : Called ℕ). c.answer) (call.is ∙ ap (λ (r : Record). event_on layouts r a.cells a.tx a.rx) says)
+  its_answer = ap (λ (c : Called ℕ). c.answer) (call.is ∙ ap (λ (r : Option Event). event_on layouts r a.cells a.tx a.rx) says)
 
   pub its_state : Obeys (stand a) → stand b ≡ next layouts (stand a) e
   unfolding event_on event_leaves out_of next unless pick
   its_state o =
       ap₂ (λ (r : Bridge) (c : Called ℕ). config r c.tx c.rx)
-      (call.leaves ∙ ap (λ (r : Record). event_leaves layouts r (lent a.cells) a.tx a.rx) says ∙ ap (λ (t : Bool). pick t (lent a.cells) (out_of layouts (stand a) e).answer.state) (not_refused layouts layouts_fit (stand a) e o))
-      (call.is ∙ ap (λ (r : Record). event_on layouts r a.cells a.tx a.rx) says)
+      (call.leaves ∙ ap (λ (r : Option Event). event_leaves layouts r (lent a.cells) a.tx a.rx) says ∙ ap (λ (t : Bool). pick t (lent a.cells) (out_of layouts (stand a) e).answer.state) (not_refused layouts layouts_fit (stand a) e o))
+      (call.is ∙ ap (λ (r : Option Event). event_on layouts r a.cells a.tx a.rx) says)
 
 same_run : (a : Lent) (ms : List Made) → Chained a ms → Obeys (stand a) → SameRun a ms
 unfolding Chained answers_of answers_in events_of left_after end_of
@@ -59,7 +58,7 @@ same_run a (m ∷ ms) (link, links) o =
 pub record PowerIs (power : ℕ) : Type 0 where
   pub good : Bool
   pub layout : Layout
-  pub says : event_by 0 power ≡ Good (Power good layout)
+  pub says : event_by 0 power ≡ Some (Power good layout)
   pub gives : power_by power ≡ Events.powered good layout
 
 pub power_is : (power : ℕ) → power < 4 → PowerIs power
@@ -97,6 +96,6 @@ module _ (cells tx rx : List ℕ) (damaged : is_record cells ≡ false) (stores 
   unfolding step pick power_up_in
   step_refuses e = rw (stores.tx_is, stores.rx_is)
 
-  pub refused_as_broken : (e : Event) → event_on layouts (Good e) cells tx rx ≡ called 0x02FFFF01 cells tx rx
+  pub refused_as_broken : (e : Event) → event_on layouts (Some e) cells tx rx ≡ called 0x02FFFF01 cells tx rx
   unfolding event_on unless answer_number refuses pick bit_byte
   refused_as_broken e = rw (lent_broken, step_refuses e)

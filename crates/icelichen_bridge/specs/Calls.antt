@@ -1,6 +1,6 @@
 -- What a program in C gets of the bridge (include/icelichen_bridge.h): the bridge is lent in cells, and each call is what the bridge does with the record
 -- that they stand for. Ours, over 01 and 02 items 6 and 7. Assumes nothing.
-use Rattle.std.specs.Prelude.{Bool, true, false, not, ◌&&◌, List, ℕ, ◌+◌, ◌*◌, ltb, eqb, ℤ, pos, negsuc}
+use Rattle.std.specs.Prelude.{Bool, true, false, not, ◌&&◌, List, ℕ, ◌+◌, ◌*◌, ltb, eqb, ℤ, pos, negsuc, Option, None, Some}
 use Rattle.base.specs.Pick.{pick}
 use Rattle.command.specs.Layouts.{Layouts}
 use Rattle.layout.specs.declared.Layout.TheVariants.{Ours, Makers}
@@ -13,12 +13,11 @@ use Rattle.state.specs.declared.Phase.TheVariants.{Idle, Collecting, Answering, 
 use Rattle.rules.specs.Sound.{sound}
 use Rattle.events.specs.Turn.{Out}
 use Rattle.events.specs.declared.Answer.{Answer}
+use Rattle.events.specs.declared.Event.{Event}
 use Rattle.bridge.specs.Runs.{refuses}
 use Rattle.bridge.specs.Step.{step}
 use Rattle.drain.specs.Drain.{End, drain}
 use Rattle.script.specs.Script.{record_of}
-use Rattle.script.specs.declared.Record.{Record}
-use Rattle.script.specs.declared.Record.TheVariants.{Good, Bad}
 use Rattle.listing.specs.Results.{bit_byte}
 use Rattle.whole_night.specs.Night as Night
 use Rattle.whole_night.specs.Numbered.{config}
@@ -41,8 +40,8 @@ abbrev pub no_event : ℕ
 no_event = 0x16FFFF01
 
 -- the event of two numbers, none of them cut: what is wider than a record's is no event's
-unfoldable pub event_by : ℕ → ℕ → Record
-event_by kind value = pick (ltb 255 kind) Bad (pick (ltb 65535 value) Bad (record_of kind value))
+unfoldable pub event_by : ℕ → ℕ → Option Event
+event_by kind value = pick (ltb 255 kind) None (pick (ltb 65535 value) None (record_of kind value))
 
 -- what a call answers, and cells and stores as it leaves them
 pub record Called (A : Type 0) : Type 0 where
@@ -85,16 +84,16 @@ power_leaves power was = pick (ltb power 4) (power_by power) was
 abbrev pub stepped : Out → List ℕ → Called ℕ
 stepped o cells = called (answer_of o.answer) (unless (refuses o.answer.note) cells (cells_of o.answer.state)) o.tx o.rx
 
-unfoldable pub event_on : Layouts → Record → List ℕ → List ℕ → List ℕ → Called ℕ
-event_on l Bad cells tx rx = called no_event cells tx rx
-event_on l (Good e) cells tx rx = stepped (step l (lent cells) tx rx e) cells
+unfoldable pub event_on : Layouts → Option Event → List ℕ → List ℕ → List ℕ → Called ℕ
+event_on l None cells tx rx = called no_event cells tx rx
+event_on l (Some e) cells tx rx = stepped (step l (lent cells) tx rx e) cells
 
 abbrev pub step_leaves : Out → Bridge → Bridge
 step_leaves o was = unless (refuses o.answer.note) was o.answer.state
 
-unfoldable pub event_leaves : Layouts → Record → Bridge → List ℕ → List ℕ → Bridge
-event_leaves l Bad was tx rx = was
-event_leaves l (Good e) was tx rx = step_leaves (step l was tx rx e) was
+unfoldable pub event_leaves : Layouts → Option Event → Bridge → List ℕ → List ℕ → Bridge
+event_leaves l None was tx rx = was
+event_leaves l (Some e) was tx rx = step_leaves (step l was tx rx e) was
 
 -- A LIST OF EVENTS (02 item 6): how many were done, or below 0 a refusal, minus its number (`negsuc n` is minus n + 1)
 abbrev pub list_code : ℕ → Outcome → ℤ

@@ -1,10 +1,9 @@
 -- Calls one after the other, each lent the cells and the stores as the call before left them, and what they come to: the events given to `step` one by
 -- one. Assumes nothing.
-use Rattle.std.specs.Prelude.{◌≡◌, List, [], ◌∷◌, ℕ}
+use Rattle.std.specs.Prelude.{◌≡◌, List, [], ◌∷◌, ℕ, Some}
 use Rattle.command.specs.Layouts.{Layouts, layouts}
 use Rattle.events.specs.declared.Event.{Event}
 use Rattle.bridge.specs.Runs.{Config, out_of, next, end_of}
-use Rattle.script.specs.declared.Record.TheVariants.{Good}
 use Rattle.cells.specs.Lent.{lent}
 use Rattle.icelichen_bridge.specs.Calls.{called, answer_of, event_by, event_on, event_leaves, powered, power_up_on, power_leaves}
 
@@ -37,7 +36,7 @@ pub record Made : Type 0 where
   pub left : Lent
 
 pub record Link (a : Lent) (m : Made) : Type 0 where
-  pub says : event_by m.kind m.value ≡ Good m.event
+  pub says : event_by m.kind m.value ≡ Some m.event
   pub call : Call a m.kind m.value m.answer m.left
 
 -- calls from what the first was lent, each as the one before left it

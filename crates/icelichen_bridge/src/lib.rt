@@ -16,7 +16,6 @@ ghost use Rattle.icelichen_bridge.specs.Calls.{answer_number, event_by, called, 
 use cells::Cells;
 use events::Event;
 use layout::Layout;
-use script::Record;
 use state::{Bridge, Note, Phase};
 use whole_night::Outcome;
 
@@ -50,14 +49,14 @@ fn is_refusal(note: Note) -> bool
 }
 
 // The event of two numbers. They are wider than a record's, so that a number which C would cut is no event's.
-fn event_by(kind: u32, value: u32) -> Record
+fn event_by(kind: u32, value: u32) -> Option<Event>
     ensures { result ≡ event_by kind value }
 {
     if 255 < kind {
-        return Record::Bad;
+        return None;
     }
     if 65535 < value {
-        return Record::Bad;
+        return None;
     }
     script::read(kind as u8, value as u16)
 }
@@ -104,15 +103,8 @@ fn is_answering(phase: Phase) -> bool
 {
     match phase {
         Phase::Idle => false,
-        Phase::Collecting {
-            command: _,
-            got: _,
-            crc: _,
-            mine: _,
-            released: _,
-            blocked: _,
-        } => false,
-        Phase::Answering { reply: _, crc: _ } => true,
+        Phase::Collecting { .. } => false,
+        Phase::Answering { .. } => true,
         Phase::Discarding => false,
     }
 }
@@ -161,8 +153,8 @@ pub extern "C" fn icelichen_event(
     ensures own_after { lent_of own.new ≡ event_leaves layouts (event_by kind value) (lent_of own.old) tx.old rx.old }
 {
     match event_by(kind, value) {
-        Record::Good(event) => stepped(own, tx, rx, event),
-        Record::Bad => NO_EVENT,
+        Some(event) => stepped(own, tx, rx, event),
+        None => NO_EVENT,
     }
 }
 

@@ -3,117 +3,118 @@
 
 #![tactic(auto)]
 
-ghost use Rattle.std.specs.Prelude.{◌≡◌};
+ghost use Rattle.std.specs.Prelude.{◌≡◌, Some, None};
+ghost use Rattle.base.specs.Pick.{pick};
 ghost use Rattle.crc16.specs.Crc.{start};
-ghost use Rattle.icelichen_frames.specs.Codes.{written_code, status_code, data_code, coded, order_by, frame_for, told_for, spoken_of, frame_in, told_in};
+ghost use Rattle.icelichen_frames.specs.Codes.{written_code, status_code, data_code, sixteen, coded, order_by, frame_for, told_for, spoken_of, frame_in, told_in};
 
-use frames::{Named, Told, Written};
+use frames::{Order, Told, WriteError};
 use layout::Layout;
 
-// The words that a host speaks: their layout, and where the CRC starts; or a number that says none.
+// The words that a host speaks: their layout, and where the CRC starts.
 #[derive(Clone, Copy)]
-enum Spoken {
-    Nothing,
-    Words { layout: Layout, start: u16 },
+struct Spoken {
+    layout: Layout,
+    start: u16,
 }
 
-fn spoken_by(number: u32) -> Spoken
+fn spoken_by(number: u32) -> Option<Spoken>
     ensures { result ≡ spoken_of number }
 {
     match number {
-        0 => Spoken::Words {
+        0 => Some(Spoken {
             layout: Layout::Ours,
             start: crc16::START,
-        },
-        1 => Spoken::Words {
+        }),
+        1 => Some(Spoken {
             layout: Layout::Makers,
             start: crc16::START,
-        },
-        2 => Spoken::Words {
+        }),
+        2 => Some(Spoken {
             layout: Layout::Makers,
             start: 0,
-        },
-        _ => Spoken::Nothing,
+        }),
+        _ => None,
     }
 }
 
-// The order of these numbers. They are wider than any field, so that a number which C would cut is refused.
-fn order_by(command: u32, ends: u32, address: u32, count: u32) -> Named
+// A number as a field has it; a wider one, which C would cut, is none.
+fn field(number: u32) -> Option<u16>
+    ensures { result ≡ pick (sixteen number) (Some number) None }
+{
+    u16::try_from(number).ok()
+}
+
+// The order of these numbers.
+fn order_by(command: u32, ends: u32, address: u32, count: u32) -> Option<Order>
     ensures { result ≡ order_by command ends address count }
 {
-    if 65535 < command {
-        return Named::Unknown;
-    }
-    if 65535 < ends {
-        return Named::Unknown;
-    }
-    if 65535 < address {
-        return Named::Unknown;
-    }
-    if 65535 < count {
-        return Named::Unknown;
-    }
-    frames::order_of(command as u16, ends as u16, address as u16, count as u16)
+    frames::order_of(
+        field(command)?,
+        field(ends)?,
+        field(address)?,
+        field(count)?,
+    )
 }
 
-fn written_code(written: Written) -> i32
+// Stays: (a) numbers of refusals: the functions of include/icelichen_frames.h return an `int32_t`.
+fn written_code(written: Result<u16, WriteError>) -> i32
     ensures { result ≡ written_code written }
 {
     match written {
-        Written::Frame(words) => words as i32,
-        Written::OutsideLimits => -20,
-        Written::BufferShort => -21,
+        Ok(words) => i32::from(words),
+        Err(WriteError::OutsideLimits) => -20,
+        Err(WriteError::BufferShort) => -21,
     }
 }
 
-fn status_code(told: Told) -> i32
+fn status_code(told: Option<Told>) -> i32
     ensures { result ≡ status_code told }
 {
     match told {
-        Told::Status(value) => value as i32,
-        Told::Data(_) => -20,
-        Told::Refused => -20,
+        Some(Told::Status(value)) => i32::from(value),
+        Some(Told::Data(_)) | None => -20,
     }
 }
 
-fn data_code(told: Told) -> i32
+fn data_code(told: Option<Told>) -> i32
     ensures { result ≡ data_code told }
 {
     match told {
-        Told::Status(_) => -20,
-        Told::Data(count) => count as i32,
-        Told::Refused => -20,
+        Some(Told::Data(count)) => i32::from(count),
+        Some(Told::Status(_)) | None => -20,
     }
 }
 
 // The frame of these numbers' order; of no order, none.
-fn written(layout: Layout, start: u16, named: Named, words: &[u16], buffer: &mut [u16]) -> i32
+fn written(
+    layout: Layout,
+    start: u16,
+    named: Option<Order>,
+    words: &[u16],
+    buffer: &mut [u16],
+) -> i32
     ensures { coded result buffer.new ≡ frame_for layout start named words.now buffer.old }
 {
     match named {
-        Named::Unknown => -20,
-        Named::Known(order) => written_code(frames::write(layout, start, order, words, buffer)),
+        Some(order) => written_code(frames::write(layout, start, order, words, buffer)),
+        None => -20,
     }
 }
 
 // What an answer says; of no order, nothing.
-fn told(start: u16, command: u32, ends: u32, address: u32, count: u32, answer: &[u16]) -> Told
-    ensures { result ≡ told_for start (order_by command ends address count) answer.now }
+fn told(start: u16, named: Option<Order>, answer: &[u16]) -> Option<Told>
+    ensures { result ≡ told_for start named answer.now }
 {
-    match order_by(command, ends, address, count) {
-        Named::Unknown => Told::Refused,
-        Named::Known(order) => frames::read_answer(start, order, answer),
-    }
+    frames::read_answer(start, named?, answer)
 }
 
 // The same, for whatever words the number says.
-fn told_in(layout: u32, command: u32, ends: u32, address: u32, count: u32, answer: &[u16]) -> Told
-    ensures { result ≡ told_in (spoken_of layout) (order_by command ends address count) answer.now }
+fn told_in(layout: u32, named: Option<Order>, answer: &[u16]) -> Option<Told>
+    ensures { result ≡ told_in (spoken_of layout) named answer.now }
 {
-    match spoken_by(layout) {
-        Spoken::Nothing => Told::Refused,
-        Spoken::Words { layout: _, start } => told(start, command, ends, address, count, answer),
-    }
+    let spoken = spoken_by(layout)?;
+    told(spoken.start, named, answer)
 }
 
 #[unsafe(no_mangle)]
@@ -146,7 +147,8 @@ pub extern "C" fn icelichen_status(
 ) -> i32
     ensures { result ≡ status_code (told_for start (order_by command ends address count) answer.now) }
 {
-    status_code(told(crc16::START, command, ends, address, count, answer))
+    let named = order_by(command, ends, address, count);
+    status_code(told(crc16::START, named, answer))
 }
 
 #[unsafe(no_mangle)]
@@ -159,7 +161,8 @@ pub extern "C" fn icelichen_data(
 ) -> i32
     ensures { result ≡ data_code (told_for start (order_by command ends address count) answer.now) }
 {
-    data_code(told(crc16::START, command, ends, address, count, answer))
+    let named = order_by(command, ends, address, count);
+    data_code(told(crc16::START, named, answer))
 }
 
 #[unsafe(no_mangle)]
@@ -176,8 +179,8 @@ pub extern "C" fn icelichen_frame_in(
 {
     let named = order_by(command, ends, address, count);
     match spoken_by(layout) {
-        Spoken::Nothing => -20,
-        Spoken::Words { layout, start } => written(layout, start, named, words, buffer),
+        Some(Spoken { layout, start }) => written(layout, start, named, words, buffer),
+        None => -20,
     }
 }
 
@@ -192,7 +195,7 @@ pub extern "C" fn icelichen_status_in(
 ) -> i32
     ensures { result ≡ status_code (told_in (spoken_of layout) (order_by command ends address count) answer.now) }
 {
-    status_code(told_in(layout, command, ends, address, count, answer))
+    status_code(told_in(layout, order_by(command, ends, address, count), answer))
 }
 
 #[unsafe(no_mangle)]
@@ -206,5 +209,5 @@ pub extern "C" fn icelichen_data_in(
 ) -> i32
     ensures { result ≡ data_code (told_in (spoken_of layout) (order_by command ends address count) answer.now) }
 {
-    data_code(told_in(layout, command, ends, address, count, answer))
+    data_code(told_in(layout, order_by(command, ends, address, count), answer))
 }

@@ -1,4 +1,5 @@
 -- What a frame does to the sending side keeps its rules, with what the frame then has to bring and has in TX. Assumes nothing.
+use Rattle.std.specs.Prelude.{Option, None, Some}
 use mathlib.Core.Path.{◌≡◌, refl}
 use Prim.Native.Nat.{ℕ, suc, ◌+◌, ◌≤◌, ◌<◌}
 use native.Mathlib.Omega.{arith}
@@ -9,8 +10,6 @@ use Rattle.state.specs.declared.Deed.TheVariants.{Enqueue, TakeBack, ClearAll, R
 use Rattle.state.specs.declared.Place.{Place}
 use Rattle.state.specs.declared.Ring.{Ring}
 use Rattle.state.specs.declared.Sending.{Sending}
-use Rattle.state.specs.declared.Store.{Store}
-use Rattle.state.specs.declared.Store.TheVariants.{Keep, Put}
 use Rattle.kept.proofs.Queue.{fit_queued, eight_queued, fit_emptied, words_queued, words_emptied, some_queued, some_emptied, last_left_queued}
 use Rattle.kept.specs.Rules.{SendRules}
 
@@ -18,12 +17,12 @@ use Rattle.kept.specs.Rules.{SendRules}
 pub rules_none : (s : Sending) (c m : ℕ) → SendRules s c m → c ≡ 0 → m ≡ 0 → SendRules s 0 0
 rules_none s c m r ec em = rw (ec, em) at r
 
-pub rules_kept : (s : Sending) (c m : ℕ) → SendRules s c m → SendRules (stored s Keep) c m
+pub rules_kept : (s : Sending) (c m : ℕ) → SendRules s c m → SendRules (stored s None) c m
 unfolding stored ring_after
 rules_kept s c m r = r
 
 -- a word stored: one of the frame's own while it is not released, afterwards one less to bring
-pub rules_put_mine : (s : Sending) (w m : ℕ) → SendRules s 0 m → s.tx.count < 512 → SendRules (stored s (Put w)) 0 (m + 1)
+pub rules_put_mine : (s : Sending) (w m : ℕ) → SendRules s 0 m → s.tx.count < 512 → SendRules (stored s (Some w)) 0 (m + 1)
 unfolding stored ring_after
 rules_put_mine s w m r h = record {
   tx = record { head = r.tx.head; count = omega arith };
@@ -38,7 +37,7 @@ rules_put_mine s w m r h = record {
   apart = λ z. absurd (omega arith);
 }
 
-pub rules_put_owed : (s : Sending) (w c m : ℕ) → SendRules s (suc c) m → s.tx.count < 512 → SendRules (stored s (Put w)) c m
+pub rules_put_owed : (s : Sending) (w c m : ℕ) → SendRules s (suc c) m → s.tx.count < 512 → SendRules (stored s (Some w)) c m
 unfolding stored ring_after
 rules_put_owed s w c m r h = record {
   tx = record { head = r.tx.head; count = omega arith };
@@ -86,12 +85,12 @@ rules_taken_back s m r = record {
 }
 
 -- a transmit clear, after a word stored or none
-head_stays : (r : Ring) (st : Store) → (ring_after r st).head ≡ r.head
+head_stays : (r : Ring) (st : Option ℕ) → (ring_after r st).head ≡ r.head
 unfolding ring_after
-head_stays r Keep = refl
-head_stays r (Put w) = refl
+head_stays r None = refl
+head_stays r (Some w) = refl
 
-pub rules_cleared : (s : Sending) (st : Store) (c m : ℕ) → SendRules s c m → SendRules (done (stored s st) ClearAll) 0 0
+pub rules_cleared : (s : Sending) (st : Option ℕ) (c m : ℕ) → SendRules s c m → SendRules (done (stored s st) ClearAll) 0 0
 unfolding done stored owing
 rules_cleared s st c m r = record {
   tx = record { head = rw (head_stays s.tx st) r.tx.head; count = omega arith };

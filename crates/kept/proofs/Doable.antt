@@ -1,5 +1,6 @@
 -- What a host word and a release of chip select ask of the sending side can be done there, as `done` of `state` wants it: a command is queued
 -- at a free place only, and a frame takes back no more than its own words (01 Frames; notes 6, 9 and 12). Assumes nothing.
+use Rattle.std.specs.Prelude.{Option, None}
 use mathlib.Core.Bool.{Bool, true}
 use Prim.Native.Nat.{ℕ, ◌≤◌}
 use Rattle.base.specs.Pick.{pick, pick_keeps}
@@ -28,17 +29,15 @@ use Rattle.state.specs.declared.Phase.TheVariants.{Idle, Collecting, Answering, 
 use Rattle.state.specs.declared.Reply.{Reply}
 use Rattle.state.specs.declared.Reply.TheVariants.{Status, Data, Registers, Check}
 use Rattle.state.specs.declared.Sending.{Sending}
-use Rattle.state.specs.declared.Store.{Store}
-use Rattle.state.specs.declared.Store.TheVariants.{Keep}
 use Rattle.queue.proofs.Laws.{has_places}
 
-abbrev Grants : Sending → Store → Granted → Type 0
+abbrev Grants : Sending → Option ℕ → Granted → Type 0
 Grants s st g = Doable (stored s st) g.deed
 
 abbrev Plans : Sending → Plan → Type 0
 Plans s p = Doable (stored s p.store) p.deed
 
-guard_doable : (s : Sending) (st : Store) (blocked : Bool) (w : Wish) → Grants s st (guard blocked s.tx.count s.queue w)
+guard_doable : (s : Sending) (st : Option ℕ) (blocked : Bool) (w : Wish) → Grants s st (guard blocked s.tx.count s.queue w)
 unfolding guard stored
 guard_doable s st blocked w =
     pick_keeps (Grants s st) _ _ _ (λ h. tt)
@@ -66,7 +65,7 @@ module _ (b : Bridge) where
   data_word_doable (Forward crc words ends reads) at w = guard_doable b.sending _ _ _
   data_word_doable (DataRead crc words) at w = tt
   data_word_doable (RegisterWrite crc address count) at w =
-      pick_keeps (Plans b.sending) _ _ _ (λ h. tt) (λ h. clears_doable (stored b.sending Keep) _)
+      pick_keeps (Plans b.sending) _ _ _ (λ h. tt) (λ h. clears_doable (stored b.sending None) _)
   data_word_doable (RegisterRead crc address count) at w = tt
   data_word_doable SoftReset at w = tt
 
@@ -85,7 +84,7 @@ module _ (b : Bridge) where
 
   registers_closed_doable : (crc : Bool) (address count : ℕ) → Plans b.sending (registers_closed b crc address count)
   unfolding registers_closed
-  registers_closed_doable crc address count = pick_keeps (Plans b.sending) crc _ _ (λ h. clears_doable (stored b.sending Keep) _) (λ h. tt)
+  registers_closed_doable crc address count = pick_keeps (Plans b.sending) crc _ _ (λ h. clears_doable (stored b.sending None) _) (λ h. tt)
 
   reset_closed_doable : Plans b.sending (reset_closed b)
   unfolding reset_closed

@@ -1,4 +1,5 @@
 -- A forward's words, as they are granted, keep the rules of the sending side and of the frame (01 Frames; notes 5, 8 and 9). Assumes nothing.
+use Rattle.std.specs.Prelude.{Option, None, Some}
 use mathlib.Core.Path.{◌≡◌, refl}
 use mathlib.Core.Bool.{Bool, true, false, not, ◌&&◌, ◌||◌}
 use Prim.Native.Nat.{ℕ, suc, ◌+◌, ◌-◌, ◌≤◌, ◌<◌}
@@ -21,8 +22,6 @@ use Rattle.state.specs.declared.Phase.{Phase}
 use Rattle.state.specs.declared.Phase.TheVariants.{Idle, Collecting}
 use Rattle.state.specs.declared.Progress.{Progress}
 use Rattle.state.specs.declared.Sending.{Sending}
-use Rattle.state.specs.declared.Store.{Store}
-use Rattle.state.specs.declared.Store.TheVariants.{Keep, Put}
 use Rattle.place_rules.specs.Places.{waits}
 use Rattle.kept.proofs.Stands.{Asks}
 use Rattle.kept.proofs.Deeds.{rules_none, rules_put_mine, rules_put_owed, rules_enqueued, rules_cleared}
@@ -32,7 +31,7 @@ use Rattle.queue.proofs.Laws.{has_places, has_record}
 use Rattle.kept.proofs.Owed.{blocked_brings_none}
 
 -- A word stored or none, then a deed, and the phase after them: rules kept.
-pub record Leaves (s : Sending) (st : Store) (d : Deed) (p : Phase) : Type 0 where
+pub record Leaves (s : Sending) (st : Option ℕ) (d : Deed) (p : Phase) : Type 0 where
   pub sending : SendRules (done (stored s st) d) (to_come p) (mine_of p)
   pub phase : phase_sound p ≡ true
   pub asks : Asks s d
@@ -90,7 +89,7 @@ module _ (s : Sending) (crc : Bool) (words ends : ℕ) (reads : Bool) where
 
   -- a blocked forward's word is dropped
   word_dropped : (got sum mine : ℕ) (released : Bool) → Owes got mine released true → Fit got sum mine released true → got < words
-      → Leaves s Keep Leave (Collects (got + 1) sum mine released true)
+      → Leaves s None Leave (Collects (got + 1) sum mine released true)
   unfolding stored done ring_after to_come mine_of phase_sound collect_sound pick
   word_dropped got sum mine released r f h =
       let none : mine ≡ 0 = rw (or_true released) at f.own in
@@ -108,7 +107,7 @@ module _ (s : Sending) (crc : Bool) (words ends : ℕ) (reads : Bool) where
       }
 
   -- a transmit clear blocks it
-  forward_cleared : (st : Store) (got sum c m : ℕ) (released : Bool) → SendRules s c m → got ≤ words → words ≤ 4096 → ends ≤ 127
+  forward_cleared : (st : Option ℕ) (got sum c m : ℕ) (released : Bool) → SendRules s c m → got ≤ words → words ≤ 4096 → ends ≤ 127
       → not (released && crc) ≡ true → Leaves s st ClearAll (Collects got sum 0 released true)
   unfolding to_come mine_of phase_sound collect_sound
   forward_cleared st got sum c m released r h w e u = record {
@@ -126,7 +125,7 @@ module _ (s : Sending) (crc : Bool) (words ends : ℕ) (reads : Bool) where
 
   -- a word of a released forward goes to its place
   word_sent_lem : (got sum mine w : ℕ) → Owes got mine true false → Fit got sum mine true false → got < words → s.tx.count < 512
-      → Leaves s (Put w) Leave (Collects (got + 1) sum mine true false)
+      → Leaves s (Some w) Leave (Collects (got + 1) sum mine true false)
   unfolding done to_come mine_of phase_sound collect_sound owed_by pick
   word_sent_lem got sum mine w r f h c =
       let e : words - got ≡ suc (words - (got + 1)) = omega arith in
@@ -145,7 +144,7 @@ module _ (s : Sending) (crc : Bool) (words ends : ℕ) (reads : Bool) where
 
   -- a word of one that is not released is its own
   word_gathered : (got sum mine w : ℕ) → Owes got mine false false → Fit got sum mine false false → got < words → s.tx.count < 512
-      → (crc || ltb (got + 1) words) ≡ true → Leaves s (Put w) Leave (Collects (got + 1) sum (mine + 1) false false)
+      → (crc || ltb (got + 1) words) ≡ true → Leaves s (Some w) Leave (Collects (got + 1) sum (mine + 1) false false)
   unfolding done to_come mine_of phase_sound collect_sound owed_by pick
   word_gathered got sum mine w r f h c t = record {
     sending = rules_put_mine s w mine r c;
@@ -166,11 +165,11 @@ module _ (s : Sending) (crc : Bool) (words ends : ℕ) (reads : Bool) where
 
   -- a word that releases
   word_queued : (got sum mine w : ℕ) → Owes got mine false false → Fit got sum mine false false → got < words → s.tx.count < 512
-      → in_use s.queue + places_of (new_place words ends reads) ≤ 8 → crc ≡ false → Leaves s (Put w) (Enqueue (new_place words ends reads)) (Collects (got + 1) sum 0 true false)
+      → in_use s.queue + places_of (new_place words ends reads) ≤ 8 → crc ≡ false → Leaves s (Some w) (Enqueue (new_place words ends reads)) (Collects (got + 1) sum 0 true false)
   unfolding to_come mine_of phase_sound collect_sound owed_by pick new_place
   word_queued got sum mine w r f h c u k = record {
     sending =
-        rules_enqueued (stored s (Put w)) (new_place words ends reads) (words - (got + 1)) (mine + 1) (rules_put_mine s w mine r c)
+        rules_enqueued (stored s (Some w)) (new_place words ends reads) (words - (got + 1)) (mine + 1) (rules_put_mine s w mine r c)
         (unfold stored in has_record s.queue (new_place words ends reads) r.eight u) f.words_most
         f.ends_most
         (omega (arith, f.own))
@@ -189,30 +188,30 @@ module _ (s : Sending) (crc : Bool) (words ends : ℕ) (reads : Bool) where
   -- a data word, whether it releases or not
   pub word_goes : (got sum mine w : ℕ) (blocked released t : Bool) → Owes got mine released blocked → Fit got sum mine released blocked → got < words
       → (t ≡ true → (crc ≡ false) × (released ≡ false)) → (t ≡ false → released ≡ false → (crc || ltb (got + 1) words) ≡ true)
-      → Goes (got + 1) sum mine released blocked (guard blocked s.tx.count s.queue (wish (Put w) t (new_place words ends reads)))
+      → Goes (got + 1) sum mine released blocked (guard blocked s.tx.count s.queue (wish (Some w) t (new_place words ends reads)))
   unfolding guard asks_store pick mine_after enqueues clears
   word_goes got sum mine w true released t r f h p q = word_dropped got sum mine released r f h
   word_goes got sum mine w false true true r f h p q = let z : ◌≡◌ {A = ℕ} 0 1 = cc (p refl).1 in absurd (omega arith)
   word_goes got sum mine w false true false r f h p q =
-      pick_keeps (Goes (got + 1) sum mine true false) (leb 512 s.tx.count) (granted Keep ClearAll TxFull) (granted (Put w) Leave Done)
-      (λ c. forward_cleared Keep (got + 1) sum _ _ true r (omega arith) f.words_most f.ends_most f.unchecked)
+      pick_keeps (Goes (got + 1) sum mine true false) (leb 512 s.tx.count) (granted None ClearAll TxFull) (granted (Some w) Leave Done)
+      (λ c. forward_cleared None (got + 1) sum _ _ true r (omega arith) f.words_most f.ends_most f.unchecked)
       (λ c. word_sent_lem got sum mine w r f h (leb-false _ _ c))
   word_goes got sum mine w false false true r f h p q =
-      pick_keeps (Goes (got + 1) sum mine false false) (leb 512 s.tx.count) (granted Keep ClearAll TxFull)
-      (pick (lacks s.queue (new_place words ends reads)) (granted (Put w) ClearAll QueueFull) (granted (Put w) (Enqueue (new_place words ends reads)) Done))
-      (λ c. forward_cleared Keep (got + 1) sum _ _ false r (omega arith) f.words_most f.ends_most f.unchecked)
-      (λ c. pick_keeps (Goes (got + 1) sum mine false false) (lacks s.queue (new_place words ends reads)) (granted (Put w) ClearAll QueueFull)
-      (granted (Put w) (Enqueue (new_place words ends reads)) Done)
-      (λ u. forward_cleared (Put w) (got + 1) sum _ _ false r (omega arith) f.words_most f.ends_most f.unchecked)
+      pick_keeps (Goes (got + 1) sum mine false false) (leb 512 s.tx.count) (granted None ClearAll TxFull)
+      (pick (lacks s.queue (new_place words ends reads)) (granted (Some w) ClearAll QueueFull) (granted (Some w) (Enqueue (new_place words ends reads)) Done))
+      (λ c. forward_cleared None (got + 1) sum _ _ false r (omega arith) f.words_most f.ends_most f.unchecked)
+      (λ c. pick_keeps (Goes (got + 1) sum mine false false) (lacks s.queue (new_place words ends reads)) (granted (Some w) ClearAll QueueFull)
+      (granted (Some w) (Enqueue (new_place words ends reads)) Done)
+      (λ u. forward_cleared (Some w) (got + 1) sum _ _ false r (omega arith) f.words_most f.ends_most f.unchecked)
       (λ u. word_queued got sum mine w r f h (leb-false _ _ c) (has_places s.queue _ u) (p refl).0))
   word_goes got sum mine w false false false r f h p q =
-      pick_keeps (Goes (got + 1) sum mine false false) (leb 512 s.tx.count) (granted Keep ClearAll TxFull) (granted (Put w) Leave Done)
-      (λ c. forward_cleared Keep (got + 1) sum _ _ false r (omega arith) f.words_most f.ends_most f.unchecked)
+      pick_keeps (Goes (got + 1) sum mine false false) (leb 512 s.tx.count) (granted None ClearAll TxFull) (granted (Some w) Leave Done)
+      (λ c. forward_cleared None (got + 1) sum _ _ false r (omega arith) f.words_most f.ends_most f.unchecked)
       (λ c. word_gathered got sum mine w r f h (leb-false _ _ c) (q refl refl))
 
   -- the command word
   begun_waits : (sum : ℕ) (blocked : Bool) → SendRules s 0 0 → words ≤ 4096 → ends ≤ 127
-      → (crc || false || blocked || ltb 0 words || (eqb words 0 && eqb ends 0)) ≡ true → Leaves s Keep Leave (Collects 0 sum 0 false blocked)
+      → (crc || false || blocked || ltb 0 words || (eqb words 0 && eqb ends 0)) ≡ true → Leaves s None Leave (Collects 0 sum 0 false blocked)
   unfolding stored done ring_after to_come mine_of phase_sound collect_sound owed_by pick
   begun_waits sum blocked r w e t = record {
     sending = r;
@@ -232,7 +231,7 @@ module _ (s : Sending) (crc : Bool) (words ends : ℕ) (reads : Bool) where
       none false = refl
 
   begun_queued : (sum : ℕ) → SendRules s 0 0 → words ≡ 0 → ends ≤ 127 → 0 < ends → in_use s.queue + places_of (new_place words ends reads) ≤ 8 → crc ≡ false
-      → Leaves s Keep (Enqueue (new_place words ends reads)) (Collects 0 sum 0 true false)
+      → Leaves s None (Enqueue (new_place words ends reads)) (Collects 0 sum 0 true false)
   unfolding to_come mine_of phase_sound collect_sound owed_by pick new_place stored ring_after
   begun_queued sum r w e n u k = record {
     sending = rules_enqueued s (new_place words ends reads) (words - 0) 0 r (has_record s.queue (new_place words ends reads) r.eight u) (omega arith) e
@@ -250,24 +249,24 @@ module _ (s : Sending) (crc : Bool) (words ends : ℕ) (reads : Bool) where
 
   pub begun_goes : (sum : ℕ) (blocked t : Bool) → SendRules s 0 0 → words ≤ 4096 → ends ≤ 127 → (t ≡ true → (crc ≡ false) × (words ≡ 0) × (0 < ends))
       → (t ≡ false → (crc || false || false || ltb 0 words || (eqb words 0 && eqb ends 0)) ≡ true)
-      → Goes 0 sum 0 false blocked (guard blocked s.tx.count s.queue (wish Keep t (new_place words ends reads)))
+      → Goes 0 sum 0 false blocked (guard blocked s.tx.count s.queue (wish None t (new_place words ends reads)))
   unfolding guard asks_store pick mine_after enqueues clears
   begun_goes sum true true r w e p o = begun_waits sum true r w e (blocked_timely crc false _ _)
   begun_goes sum true false r w e p o = begun_waits sum true r w e (blocked_timely crc false _ _)
   begun_goes sum false true r w e p o =
-      pick_keeps (Goes 0 sum 0 false false) (lacks s.queue (new_place words ends reads)) (granted Keep ClearAll QueueFull)
-      (granted Keep (Enqueue (new_place words ends reads)) Done)
-      (λ u. forward_cleared Keep 0 sum 0 0 false r (omega arith) w e refl)
+      pick_keeps (Goes 0 sum 0 false false) (lacks s.queue (new_place words ends reads)) (granted None ClearAll QueueFull)
+      (granted None (Enqueue (new_place words ends reads)) Done)
+      (λ u. forward_cleared None 0 sum 0 0 false r (omega arith) w e refl)
       (λ u. begun_queued sum r (p refl).1 e (p refl).2 (has_places s.queue _ u) (p refl).0)
   begun_goes sum false false r w e p o = begun_waits sum false r w e (o refl)
 
   -- the CRC word of one that has come whole
-  closed_left : (mine : ℕ) → SendRules s 0 mine → mine ≡ 0 → Leaves s Keep Leave Idle
+  closed_left : (mine : ℕ) → SendRules s 0 mine → mine ≡ 0 → Leaves s None Leave Idle
   unfolding stored done ring_after to_come mine_of phase_sound
   closed_left mine r m = record { sending = rules_none s 0 mine r refl m; phase = refl; asks = tt }
 
   closed_queued : (mine : ℕ) → SendRules s 0 mine → mine ≡ words → 0 < words + ends → words ≤ 4096 → ends ≤ 127
-      → in_use s.queue + places_of (new_place words ends reads) ≤ 8 → Leaves s Keep (Enqueue (new_place words ends reads)) Idle
+      → in_use s.queue + places_of (new_place words ends reads) ≤ 8 → Leaves s None (Enqueue (new_place words ends reads)) Idle
   unfolding stored ring_after to_come mine_of phase_sound new_place
   closed_queued mine r m n w e u = record {
     sending = rules_enqueued s (new_place words ends reads) 0 mine r (has_record s.queue (new_place words ends reads) r.eight u) w e (omega arith) n;
@@ -275,19 +274,19 @@ module _ (s : Sending) (crc : Bool) (words ends : ℕ) (reads : Bool) where
     asks = (u, fresh_waits words ends reads n);
   }
 
-  closed_cleared : (mine : ℕ) → SendRules s 0 mine → Leaves s Keep ClearAll Idle
+  closed_cleared : (mine : ℕ) → SendRules s 0 mine → Leaves s None ClearAll Idle
   unfolding to_come mine_of phase_sound
-  closed_cleared mine r = record { sending = rules_cleared s Keep 0 mine r; phase = refl; asks = tt }
+  closed_cleared mine r = record { sending = rules_cleared s None 0 mine r; phase = refl; asks = tt }
 
   pub closed_goes : (mine : ℕ) (blocked t : Bool) → SendRules s 0 mine → words ≤ 4096 → ends ≤ 127 → (blocked ≡ true → mine ≡ 0)
       → (t ≡ false → mine ≡ 0) → (t ≡ true → blocked ≡ false → mine ≡ words) → (t ≡ true → 0 < words + ends)
-      → Leaves s Keep (guard blocked s.tx.count s.queue (wish Keep t (new_place words ends reads))).deed Idle
+      → Leaves s None (guard blocked s.tx.count s.queue (wish None t (new_place words ends reads))).deed Idle
   unfolding guard asks_store pick
   closed_goes mine true true r w e a n m o = closed_left mine r (a refl)
   closed_goes mine true false r w e a n m o = closed_left mine r (a refl)
   closed_goes mine false true r w e a n m o =
-      pick_keeps (λ (g : Granted). Leaves s Keep g.deed Idle) (lacks s.queue (new_place words ends reads)) (granted Keep ClearAll QueueFull)
-      (granted Keep (Enqueue (new_place words ends reads)) Done)
+      pick_keeps (λ (g : Granted). Leaves s None g.deed Idle) (lacks s.queue (new_place words ends reads)) (granted None ClearAll QueueFull)
+      (granted None (Enqueue (new_place words ends reads)) Done)
       (λ u. closed_cleared mine r)
       (λ u. closed_queued mine r (m refl refl) (o refl) w e (has_places s.queue _ u))
   closed_goes mine false false r w e a n m o = closed_left mine r (n refl)

@@ -1,4 +1,5 @@
 -- A host word and a release of chip select keep the record rules (01 Notes, note 2: "every step keeps them"). Assumes nothing.
+use Rattle.std.specs.Prelude.{None}
 use mathlib.Core.Path.{◌≡◌, refl}
 use mathlib.Core.Bool.{Bool, true, false, not, ◌&&◌, ◌||◌}
 use mathlib.Core.List.{List, [], ◌∷◌}
@@ -39,7 +40,6 @@ use Rattle.state.specs.declared.Phase.TheVariants.{Idle, Collecting, Answering, 
 use Rattle.state.specs.declared.Reply.{Reply}
 use Rattle.state.specs.declared.Reply.TheVariants.{Status, Data, Registers, Check}
 use Rattle.state.specs.declared.Sending.{Sending}
-use Rattle.state.specs.declared.Store.TheVariants.{Keep}
 use Rattle.kept.proofs.Deeds.{rules_none, rules_taken_back, rules_cleared, rules_reset}
 use Rattle.kept.proofs.Fits.{command_fits, LayoutFit}
 use Rattle.kept.proofs.Forward.{Leaves, ForwardFit, forward_facts, word_goes, begun_goes, closed_goes}
@@ -170,14 +170,14 @@ record Bare (p : Phase) : Type 0 where
   owns : mine_of p ≡ 0
   fits : phase_sound p ≡ true
 
-stays : (s : Sending) (p : Phase) → SendRules s 0 0 → Bare p → Leaves s Keep Leave p
+stays : (s : Sending) (p : Phase) → SendRules s 0 0 → Bare p → Leaves s None Leave p
 unfolding stored done ring_after
 stays s p r n = record { sending = rw (n.owes, n.owns) r; phase = n.fits; asks = tt }
 
-cleared : (s : Sending) (p : Phase) (c m : ℕ) → SendRules s c m → Bare p → Leaves s Keep ClearAll p
-cleared s p c m r n = record { sending = rw (n.owes, n.owns) (rules_cleared s Keep c m r); phase = n.fits; asks = tt }
+cleared : (s : Sending) (p : Phase) (c m : ℕ) → SendRules s c m → Bare p → Leaves s None ClearAll p
+cleared s p c m r n = record { sending = rw (n.owes, n.owns) (rules_cleared s None c m r); phase = n.fits; asks = tt }
 
-taken_back : (s : Sending) (m : ℕ) → SendRules s 0 m → Leaves s Keep (TakeBack m) Idle
+taken_back : (s : Sending) (m : ℕ) → SendRules s 0 m → Leaves s None (TakeBack m) Idle
 unfolding stored ring_after to_come mine_of phase_sound
 taken_back s m r = record { sending = rules_taken_back s m r; phase = refl; asks = tt }
 
@@ -199,7 +199,7 @@ module _ (b : Bridge) (g : regs_sound b.control.regs ≡ true) where
       → (status ≡ true → p ≡ Idle) → PlanRules b (effected b p e status)
   effected_rules p e status r n k h = record {
     leaves =
-        pick_keeps (λ (d : Deed). Leaves b.sending Keep d p) e.clears_tx ClearAll Leave (λ t. cleared b.sending p 0 0 r n)
+        pick_keeps (λ (d : Deed). Leaves b.sending None d p) e.clears_tx ClearAll Leave (λ t. cleared b.sending p 0 0 r n)
         (λ t. stays b.sending p r n);
     regs = k;
     ending = h;
@@ -318,12 +318,12 @@ module _ (b : Bridge) (g : regs_sound b.control.regs ≡ true) where
       → PlanRules b (read_closed l b crc right reply)
   unfolding read_closed
   read_closed_rules l crc right reply r s =
-      let answers : Leaves b.sending Keep Leave (Answering reply (l.crc_start b.frame.xmodem)) = stays b.sending _ r (bare_answer reply _ s) in
+      let answers : Leaves b.sending None Leave (Answering reply (l.crc_start b.frame.xmodem)) = stays b.sending _ r (bare_answer reply _ s) in
       pick_keeps (PlanRules b) right _ _ (λ h. record { leaves = answers; regs = g; ending = λ e. cc })
       (λ h. pick_keeps (PlanRules b) crc _ _ (λ c. record { leaves = stays b.sending Idle r bare_idle; regs = g; ending = λ e. cc })
       (λ c. record { leaves = answers; regs = g; ending = λ e. cc }))
 
-  reset_rules : SendRules b.sending 0 0 → idle b.sending.sender ≡ true → Leaves b.sending Keep ResetAll Idle
+  reset_rules : SendRules b.sending 0 0 → idle b.sending.sender ≡ true → Leaves b.sending None ResetAll Idle
   unfolding stored ring_after to_come mine_of phase_sound
   reset_rules r h = record { sending = rules_reset b.sending 0 0 r (eqb-true _ _ (search (and_l, and_r))); phase = refl; asks = h }
 
@@ -401,11 +401,11 @@ module _ (b : Bridge) (g : regs_sound b.control.regs ≡ true) where
   planned_rules l f Discarding w x r s = record { leaves = stays b.sending Discarding r bare_discarding; regs = g; ending = λ e. cc }
 
   cut_leaves : (c : Command) (got sum mine : ℕ) (released blocked : Bool) → SendRules b.sending (owed_by c got released blocked) mine
-      → collect_sound c (progress got sum mine released blocked) ≡ true → Leaves b.sending Keep (cut_deed c got mine released) Idle
+      → collect_sound c (progress got sum mine released blocked) ≡ true → Leaves b.sending None (cut_deed c got mine released) Idle
   unfolding cut_deed
   cut_leaves c got sum mine released blocked r s =
-      pick_keeps (λ (d : Deed). Leaves b.sending Keep d Idle) released _ _
-      (λ e. pick_keeps (λ (d : Deed). Leaves b.sending Keep d Idle) _ _ _ (λ h. cleared b.sending Idle _ _ r bare_idle)
+      pick_keeps (λ (d : Deed). Leaves b.sending None d Idle) released _ _
+      (λ e. pick_keeps (λ (d : Deed). Leaves b.sending None d Idle) _ _ _ (λ h. cleared b.sending Idle _ _ r bare_idle)
       (λ h. stays b.sending Idle
       (rules_none b.sending _ mine r (whole_owes_none c got released blocked (ltb-false _ _ h)) (released_own c got sum mine released blocked s e))
       bare_idle))

@@ -1,5 +1,6 @@
 -- The reader's marks keep their rule: the command being read belongs to the oldest place that has begun, and its words go to RX only while no
 -- RX flag is up (01 The line, "Each command read belongs ..", "unless an RX flag was up at the command's start or rises in it"). Assumes nothing.
+use Rattle.std.specs.Prelude.{Option}
 use mathlib.Core.Path.{◌≡◌, refl, sym, ◌∙◌}
 use mathlib.Core.Bool.{Bool, true, false, not, ◌&&◌, ◌||◌}
 use Prim.Native.Nat.{ℕ, ◌<◌}
@@ -36,7 +37,6 @@ use Rattle.state.specs.declared.Reader.{Reader}
 use Rattle.state.specs.declared.Receiving.{Receiving}
 use Rattle.state.specs.declared.Returned.{Returned}
 use Rattle.state.specs.declared.Sending.{Sending}
-use Rattle.state.specs.declared.Store.{Store}
 use Rattle.queue.proofs.Laws.{has_record}
 use Rattle.kept.proofs.Control.{Rises, stops, is_reset}
 use Rattle.kept.proofs.Freed.{read_steady, claim_first}
@@ -110,7 +110,7 @@ marks_stopped (Lost ones) r q f g h = rw (and_l (not r.belongs || is_unread q) _
 abbrev Marked : Receiving → Queue → Flags → Type 0
 Marked r q f = marks_sound r.reader.ear r.reader q f ≡ true
 
-deed_marks : (r : Receiving) (s : Sending) (st : Store) (d : Deed) (f : Flags) → QueueFit s.queue → length s.queue.places ≡ 8 → Standing s.queue
+deed_marks : (r : Receiving) (s : Sending) (st : Option ℕ) (d : Deed) (f : Flags) → QueueFit s.queue → length s.queue.places ≡ 8 → Standing s.queue
     → Asks s d → is_reset d ≡ false → Marked r s.queue f → Marked (cleared_away r d) (done (stored s st) d).queue f
 unfolding cleared_away done stored is_reset
 deed_marks r s st Leave f g l t a n h = h

@@ -1,4 +1,5 @@
 -- What places and sender mean together is kept by every deed of a frame and by the sender's half of a tick. Assumes nothing.
+use Rattle.std.specs.Prelude.{Option}
 use mathlib.Core.Path.{◌≡◌, refl}
 use mathlib.Core.Bool.{Bool, true, false, ◌&&◌}
 use Prim.Native.Nat.{ℕ, ◌+◌, ◌-◌, ◌≤◌, ◌<◌}
@@ -25,7 +26,6 @@ use Rattle.state.specs.declared.Queue.{Queue}
 use Rattle.state.specs.declared.Returned.{Returned}
 use Rattle.state.specs.declared.Sender.{Sender}
 use Rattle.state.specs.declared.Sending.{Sending}
-use Rattle.state.specs.declared.Store.{Store}
 use Rattle.queue.proofs.Laws.{busy_begun, speaking_begun, has_record}
 use Rattle.kept.proofs.Freed.{sent_rests, words_spoken}
 use Rattle.kept.proofs.Pieces.{fit_steady, piece_rests, piece_goes_on, piece_loaded, piece_ended, piece_starved, piece_over, piece_spoken}
@@ -46,7 +46,7 @@ Asks s ResetAll = idle s.sender ≡ true
 idle_left : (s : Sender) → idle s ≡ true → (s.left ≡ 0) × (s.ends ≡ 0)
 idle_left s h = (eqb-true _ _ (search (and_l, and_r)), eqb-true _ _ (and_r (leb (piece_length s.piece) s.gone && eqb s.left 0) _ h))
 
-pub stands_done : (s : Sending) (st : Store) (d : Deed) → QueueFit s.queue → length s.queue.places ≡ 8 → Stands s → Asks s d
+pub stands_done : (s : Sending) (st : Option ℕ) (d : Deed) → QueueFit s.queue → length s.queue.places ≡ 8 → Stands s → Asks s d
     → Stands (done (stored s st) d)
 unfolding done stored owing piece_sound pick
 stands_done s st Leave f l t a = record { standing = t.standing; sender = t.sender }

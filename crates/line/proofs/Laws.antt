@@ -2,11 +2,12 @@
 use mathlib.Core.Path.{◌≡◌, refl, sym}
 use mathlib.Core.Bool.{Bool, true, false, not}
 use mathlib.Core.Logic.{◌≢◌}
-use Prim.Native.Nat.{ℕ, ◌+◌, ◌*◌, ◌%◌}
+use Prim.Native.Nat.{ℕ, ◌+◌, ◌*◌, ◌%◌, ◌≤◌, ◌<◌, min}
 use native.Mathlib.Omega.{arith}
 use lib.Dec.{ltb, eqb}
-use borrow.Author.Tests.{eq-eqb, ne_eqb, eqb-true, eqb-false}
-use Rattle.base.specs.Pick.{pick}
+use borrow.Author.Tests.{eq-eqb, ne_eqb, eqb-true, eqb-false, ltb-true, ltb-false}
+use Rattle.std.specs.Int.{from_bool}
+use Rattle.base.specs.Pick.{pick_keeps}
 use Rattle.base.specs.Bits.{val, odd}
 use Rattle.line.specs.declared.Piece.{Piece}
 use Rattle.line.specs.declared.Ear.{Ear}
@@ -26,25 +27,34 @@ is_check w = go (eqb (w % 2) 1) refl
     go false e = let n : w % 2 ≢ 1 = eqb-false (w % 2) 1 e in eq-eqb (w % 2) 0 (omega arith)
 
 -- a run by the bit
-pub to_run : (ones : ℕ) (b : Bool) (x : ℕ) → b ≡ true → x ≡ pick (ltb ones 18) (ones + 1) 18 → x ≡ run_on ones b
+pub to_run : (ones : ℕ) (b : Bool) (s x : ℕ) → b ≡ true → s ≡ min (ones + 1) 65535 → x ≡ min s 18 → x ≡ run_on ones b
 unfolding run_on
-to_run ones b x h e = rw h e
+to_run ones b s x h e f =
+    rw h
+    (pick_keeps (λ (m : ℕ). x ≡ m) (ltb ones 18) (ones + 1) 18
+    (λ t. let l : ones < 18 = ltb-true ones 18 t in omega arith)
+    (λ t. let l : 18 ≤ ones = ltb-false ones 18 t in omega arith))
 
 pub to_break : (ones : ℕ) (b : Bool) → b ≡ false → 0 ≡ run_on ones b
 unfolding run_on
 to_break ones b h = rw h
 
 -- a bit by its number
-pub told_sum : (n k : ℕ) (b : Bool) → n ≡ val b → n + k ≡ 1 → val b + k ≡ 1
-told_sum n k b h e = rw h at e
+number_of : (n : ℕ) (b : Bool) → n ≡ from_bool b → n ≡ val b
+unfolding val
+number_of n true h = h
+number_of n false h = h
 
-pub denied_sum : (n k : ℕ) (b : Bool) → n ≡ val b → (n + k ≡ 1 → ⊥) → val b + k ≡ 1 → ⊥
-denied_sum n k b h e = rw h at e
+pub told_sum : (n k : ℕ) (b : Bool) → n ≡ from_bool b → n + k ≡ 1 → val b + k ≡ 1
+told_sum n k b h e = rw (number_of n b h) at e
 
-pub to_shifted : (i value bits ones n : ℕ) (b : Bool) → n ≡ val b
+pub denied_sum : (n k : ℕ) (b : Bool) → n ≡ from_bool b → (n + k ≡ 1 → ⊥) → val b + k ≡ 1 → ⊥
+denied_sum n k b h e = rw (number_of n b h) at e
+
+pub to_shifted : (i value bits ones n : ℕ) (b : Bool) → n ≡ from_bool b
     → heard (Group i (value % 32768 * 2 + n) (bits + 1) ones) Nothing ≡ heard (Group i (shift_in value b) (bits + 1) ones) Nothing
 unfolding shift_in
-to_shifted i value bits ones n b h = rw h
+to_shifted i value bits ones n b h = rw (number_of n b h)
 
 -- a word, by the number that its follower got
 pub to_numbered : (i n value ones : ℕ) → n ≡ next_number i

@@ -2,8 +2,7 @@
 
 #![tactic(auto)]
 
-ghost use Rattle.std.specs.Prelude.{◌≡◌, ◌≤◌};
-ghost use Rattle.base.specs.Bits.{val};
+ghost use Rattle.std.specs.Prelude.{◌≡◌};
 ghost use Rattle.line.specs.Format.{piece_length, piece_bit, word_bit};
 ghost use Rattle.line.specs.Reader.{run_on, next_number, at_check, in_group, in_lost, hear as hear_of};
 
@@ -77,9 +76,10 @@ fn word_bit(word: u16, i: u16) -> bool
     ensures { result ≡ word_bit word i }
 {
     if i < 16 {
-        return (word >> (15 - i)) % 2 == 1;
+        (word >> (15 - i)) % 2 == 1
+    } else {
+        word % 2 == 0
     }
-    word % 2 == 0
 }
 
 // The 1s in a row, with this bit.
@@ -87,49 +87,38 @@ fn run_on(ones: u16, bit: bool) -> u16
     ensures { result ≡ run_on ones bit }
 {
     if bit {
-        if ones < 18 {
-            return ones + 1;
-        }
-        return 18;
+        ones.saturating_add(1).min(18)
+    } else {
+        0
     }
-    0
-}
-
-fn bit_value(bit: bool) -> u16
-    ensures { (result ≡ val bit) × (result ≤ 1) }
-{
-    if bit { 1 } else { 0 }
 }
 
 // The number of the next word: it stops where 16 bits do.
 fn next_number(number: u16) -> u16
     ensures { result ≡ next_number number }
 {
-    if number < 65535 {
-        return number + 1;
-    }
-    65535
+    number.saturating_add(1)
 }
 
 // The bit after a group's sixteen.
+// Stays: what the group's four fields are for in the next bit stands in the definition of each step (`in_group`), field by field, as in `Ear::Group`.
 fn at_check(number: u16, value: u16, bits: u16, ones: u16, bit: bool) -> Heard
     ensures { result ≡ at_check number value bits ones bit }
 {
     let lost = Heard {
-        ear: Ear::Lost { ones: ones },
+        ear: Ear::Lost { ones },
         found: Found::CheckError(number),
     };
     if 16 < bits {
         return lost;
     }
-    if bit_value(bit) + value % 2 == 1 {
-        let next = next_number(number);
+    if u16::from(bit) + value % 2 == 1 {
         return Heard {
             ear: Ear::Group {
-                number: next,
+                number: next_number(number),
                 value: 0,
                 bits: 0,
-                ones: ones,
+                ones,
             },
             found: Found::Word(value),
         };
@@ -137,10 +126,10 @@ fn at_check(number: u16, value: u16, bits: u16, ones: u16, bit: bool) -> Heard
     if value == 65535 {
         return Heard {
             ear: Ear::Group {
-                number: number,
-                value: value,
+                number,
+                value,
                 bits: 17,
-                ones: ones,
+                ones,
             },
             found: Found::Nothing,
         };
@@ -158,13 +147,12 @@ fn in_group(number: u16, value: u16, bits: u16, ones: u16, bit: bool) -> Heard
         };
     }
     if bits < 16 {
-        let b = bit_value(bit);
         return Heard {
             ear: Ear::Group {
-                number: number,
-                value: value % 32768 * 2 + b,
+                number,
+                value: value % 32768 * 2 + u16::from(bit),
                 bits: bits + 1,
-                ones: ones,
+                ones,
             },
             found: Found::Nothing,
         };
@@ -182,7 +170,7 @@ fn in_lost(ones: u16) -> Heard
         };
     }
     Heard {
-        ear: Ear::Lost { ones: ones },
+        ear: Ear::Lost { ones },
         found: Found::Nothing,
     }
 }

@@ -76,12 +76,7 @@ fn ear_sound(ear: Ear) -> bool
 {
     match ear {
         Ear::Quiet => true,
-        Ear::Group {
-            number: _,
-            value: _,
-            bits,
-            ones,
-        } => (bits <= 17) & (ones < 18),
+        Ear::Group { bits, ones, .. } => (bits <= 17) & (ones < 18),
         Ear::Lost { ones } => ones < 18,
     }
 }
@@ -116,19 +111,13 @@ fn marks_sound(ear: Ear, reader: Reader, queue: Queue, flags: Flags) -> bool
 {
     match ear {
         Ear::Quiet => !reader.belongs & !reader.storing & !reader.stored,
-        Ear::Group {
-            number: _,
-            value: _,
-            bits: _,
-            ones: _,
-        } => heard_marks(reader, queue, flags),
-        Ear::Lost { ones: _ } => heard_marks(reader, queue, flags),
+        Ear::Group { .. } => heard_marks(reader, queue, flags),
+        Ear::Lost { .. } => heard_marks(reader, queue, flags),
     }
 }
 
 pub fn reader_sound(reader: Reader, queue: Queue, flags: Flags) -> bool
     ensures { result ≡ reader_sound reader queue flags }
 {
-    let ear = reader.ear;
-    ear_sound(ear) & marks_sound(ear, reader, queue, flags)
+    ear_sound(reader.ear) & marks_sound(reader.ear, reader, queue, flags)
 }

@@ -1,4 +1,7 @@
 -- Laws of a list's records and of the four bytes, as the functions' proofs ask them. Assumes nothing.
+use Rattle.std.specs.Prelude.{Option, None, Some}
+use Rattle.std.specs.Option.{is_some}
+use mir.Val.{bool_byte}
 use mathlib.Core.Path.{◌≡◌, refl, sym, ◌∙◌, ap, subst}
 use mathlib.Core.Bool.{Bool, true, false, ◌&&◌}
 use mathlib.Core.List.{List}
@@ -17,20 +20,17 @@ use Rattle.state.specs.declared.Note.TheVariants.{Done, WrongStores, BrokenRecor
 use Rattle.events.specs.declared.Event.{Event}
 use Rattle.events.specs.declared.Event.TheVariants.{Word, Release, Tick, Clock}
 use Rattle.script.specs.Script.{value_of, tick_record, release_record, record_of}
-use Rattle.script.specs.declared.Record.{Record}
-use Rattle.script.specs.declared.Record.TheVariants.{Good, Bad}
 use Rattle.listing.specs.Records.{is_good, event_of, is_event, event_at, all_events}
 use Rattle.listing.specs.Results.{bit_byte}
 
--- an arm knows the record
-pub to_good : (r g : Record) (x : Bool) → r ≡ g → x ≡ is_good g → x ≡ is_good r
-to_good r g x h e = rw h e
-
-pub to_event : (r g : Record) (x : Event) → r ≡ g → x ≡ event_of g → x ≡ event_of r
-to_event r g x h e = rw h e
+-- a record is an event where something was read
+pub to_good : (r g : Option Event) (x : Bool) → r ≡ g → x ≡ is_some r → x ≡ is_good g
+unfolding is_good
+to_good (Some e) g x h i = rw (← h) i
+to_good None g x h i = rw (← h) i
 
 -- what each arm gives, of a record that is an event
-abbrev Gives : Event → Record → Type 0
+abbrev Gives : Event → Option Event → Type 0
 Gives e r = is_good r ≡ true → e ≡ event_of r
 
 tick_event : (value : ℕ) → Gives (Tick (eqb value 1)) (tick_record value)
@@ -75,7 +75,7 @@ of_word (suc (suc (suc (suc (suc n))))) value g h0 h2 h3 h4 = absurd (none_beyon
 
 small : (value : ℕ) → is_good (tick_record value) ≡ true → leb value 1 ≡ true
 unfolding tick_record is_good
-small value = pick_keeps (λ (r : Record). is_good r ≡ true → leb value 1 ≡ true) _ _ _ (λ h g. h) (λ h g. cc)
+small value = pick_keeps (λ (r : Option Event). is_good r ≡ true → leb value 1 ≡ true) _ _ _ (λ h g. h) (λ h g. cc)
 
 tick_small : (kind value : ℕ) → kind ≡ 3 → is_good (record_of kind value) ≡ true → value ≤ 1
 unfolding record_of
@@ -140,13 +140,10 @@ pub all_good : (s : List ℕ) (n k : ℕ) → all_events s k ≡ true → n ≤ 
 all_good s n k a h i = let z : k ≡ n = omega arith in sym (sym (ap (all_events s) z) ∙ a)
 
 -- a bit's byte
-pub byte_one : (b : Bool) → b ≡ true → 1 ≡ bit_byte b
+pub to_bit : (b : Bool) → bool_byte b ≡ bit_byte b
 unfolding bit_byte
-byte_one b e = rw e
-
-pub byte_zero : (b : Bool) → b ≡ false → 0 ≡ bit_byte b
-unfolding bit_byte
-byte_zero b e = rw e
+to_bit true = refl
+to_bit false = refl
 
 -- a note's number is a byte
 pub to_byte : (n : Note) (r : ℕ) → r ≡ note_number n → r % 256 ≡ note_number n

@@ -1,4 +1,6 @@
 -- A quiet tick, the first of a run or a later one: `turn` gives the record that the run lays down. Assumes nothing.
+use Rattle.std.specs.Prelude.{None, Some}
+use Rattle.std.specs.Bool.{then_some}
 use mathlib.Core.Path.{◌≡◌, refl, sym, ◌∙◌, ap, subst}
 use mathlib.Core.Bool.{Bool, true, false, ◌&&◌, ◌||◌}
 use mathlib.Core.List.{List}
@@ -19,7 +21,6 @@ use Rattle.state.specs.Sending.{idle}
 use Rattle.state.specs.declared.Bridge.{Bridge}
 use Rattle.state.specs.declared.Sender.{Sender}
 use Rattle.state.specs.declared.Sending.{Sending}
-use Rattle.state.specs.declared.Store.TheVariants.{Keep}
 use Rattle.next.specs.Next.{may_start, choose, bit_sent}
 use Rattle.next.specs.declared.Next.TheVariants.{GoOn, Stay}
 use Rattle.sender.specs.Sender.{sender_after, advanced, finished, sent_by, tick_sender}
@@ -34,6 +35,17 @@ use Rattle.quick.specs.Passing.{is_nothing}
 use Rattle.quick.proofs.Between.{plain, moved, unsent, unfinished, sent_none, ticked_short, heard_none}
 use Rattle.lull.specs.Lull.{hot_of, rests_in, reach, gone_on, quiet_by, quiet_bit, laid_sender, laid, laid_by, quiet_answer}
 use Rattle.lull.specs.declared.Hot.{Hot}
+
+-- what a quiet tick leaves, by its test
+pub to_quiet : (t : Bool) (h : Hot) → then_some t h ≡ pick t (Some h) None
+unfolding pick
+to_quiet true h = refl
+to_quiet false h = refl
+
+pub was_quiet : (t : Bool) (h g : Hot) → pick t (Some h) None ≡ Some g → (t ≡ true) × (g ≡ h)
+unfolding pick
+was_quiet true h g e = (refl, cc)
+was_quiet false h g e = cc
 
 -- the reach is inside the piece
 pub reach_within : (s : Sender) → reach s ≤ piece_length s.piece
@@ -107,7 +119,7 @@ module _ (s : Sending) (may : Bool) (w : ℕ) (h : ltb s.sender.gone (reach s.se
   sent_within = rw (goes_on, not_over) refl
 
 abbrev did : Answer → Did
-did a = record { bridge = a.state; sdo = a.sdo; sout = a.sout; note = a.note; tx = Keep; rx = Keep }
+did a = record { bridge = a.state; sdo = a.sdo; sout = a.sout; note = a.note; tx = None; rx = None }
 
 lays : (still : Bool) (b : Bridge) (sin : Bool) (w : ℕ) → (still ≡ true → rests_in b ≡ true)
     → quiet_by (hot_of b) (reach b.sending.sender) still sin ≡ true → ticked b sin w ≡ did (quiet_answer b still (hot_of b) sin)

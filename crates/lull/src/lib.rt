@@ -3,12 +3,13 @@
 
 #![tactic(auto)]
 
-ghost use Rattle.std.specs.Prelude.{◌≡◌, ◌≤◌};
+ghost use Rattle.std.specs.Prelude.{◌≡◌, ◌≤◌, None, Some};
+ghost use Rattle.base.specs.Pick.{pick};
 ghost use Rattle.state.specs.Facts.{HostFit};
-ghost use Rattle.lull.specs.Lull.{hot_of, rests_in, reach as reach_of, gone_on, quiet_by, next_hot, quiet_bit, laid_sender, laid_clock, laid as laid_of};
+ghost use Rattle.lull.specs.Lull.{hot_of, rests_in, reach as reach_of, gone_on, quiet_by, next_hot, quiet_bit, laid_sender, laid as laid_of};
 
 use line::{Ear, Piece};
-use state::{Bridge, Clock, Sender};
+use state::{Bridge, Clock, Sender, Sending};
 
 // What a quiet tick moves.
 #[derive(Clone, Copy)]
@@ -19,20 +20,11 @@ pub struct Hot {
     pub sin: bool,
 }
 
-// A tick: whether it is quiet, and what it leaves.
-#[derive(Clone, Copy)]
-pub struct Quiet {
-    pub passes: bool,
-    pub hot: Hot,
-}
-
 pub fn hot_of(bridge: Bridge) -> Hot
     ensures { result ≡ hot_of bridge }
 {
-    let reader = bridge.receiving.reader;
-    let ear = reader.ear;
     Hot {
-        ear: ear,
+        ear: bridge.receiving.reader.ear,
         gone: bridge.sending.sender.gone,
         watching: bridge.clock.watching,
         sin: bridge.clock.sin,
@@ -52,8 +44,7 @@ pub fn rests_in(bridge: Bridge) -> bool
 pub fn reach(sender: Sender) -> u16
     ensures { result ≡ reach_of sender }
 {
-    let piece = sender.piece;
-    let length = line::piece_length(piece);
+    let length = line::piece_length(sender.piece);
     if 0 < sender.left {
         if length < 18 {
             return length;
@@ -72,28 +63,21 @@ fn gone_on(gone: u16, rests: bool) -> u16
     gone + 1
 }
 
-// A tick within the reach, or at rest.
-pub fn tick(hot: Hot, reach: u16, rests: bool, sin: bool) -> Quiet
+// What a tick within the reach leaves, or one at rest. None: the tick is not quiet.
+pub fn tick(hot: Hot, reach: u16, rests: bool, sin: bool) -> Option<Hot>
     requires { hot.gone ≤ 18 }
-    ensures { result ≡ record { passes = quiet_by hot reach rests sin; hot = next_hot hot rests sin } }
+    ensures { result ≡ pick (quiet_by hot reach rests sin) (Some (next_hot hot rests sin)) None }
 {
-    let before = hot.ear;
-    let heard = line::hear(before, sin);
-    let found = heard.found;
-    let after = heard.ear;
-    let none = quick::is_nothing(found);
+    let heard = line::hear(hot.ear, sin);
     let inside = hot.gone < reach;
-    let gone = gone_on(hot.gone, rests);
+    let quiet = quick::is_nothing(heard.found) & (rests | inside);
     let steady = ticks::same(sin, hot.sin);
-    Quiet {
-        passes: none & (rests | inside),
-        hot: Hot {
-            ear: after,
-            gone: gone,
-            watching: steady & hot.watching,
-            sin: sin,
-        },
-    }
+    quiet.then_some(Hot {
+        ear: heard.ear,
+        gone: gone_on(hot.gone, rests),
+        watching: steady & hot.watching,
+        sin,
+    })
 }
 
 // The bit that such a tick sends.
@@ -118,36 +102,26 @@ fn laid_sender(sender: Sender, rests: bool, gone: u16) -> Sender
             ends: 0,
         };
     }
-    let mut after = sender;
-    after.gone = gone;
-    after
-}
-
-fn laid_clock(clock: Clock, watching: bool, sin: bool) -> Clock
-    ensures { result ≡ laid_clock clock watching sin }
-{
-    let mut after = clock;
-    after.watching = watching;
-    after.sin = sin;
-    after
+    Sender { gone, ..sender }
 }
 
 // The record as a run of such ticks leaves it.
 pub fn laid(bridge: Bridge, rests: bool, hot: Hot) -> Bridge
     ensures { result ≡ laid_of bridge rests hot }
 {
-    let ear = hot.ear;
-    let mut sending = bridge.sending;
-    let before = sending.sender;
-    let sender = laid_sender(before, rests, hot.gone);
-    sending.sender = sender;
-    let receiving = reader::with_ear(bridge.receiving, ear);
-    let control = plan::settled(bridge.control, bridge.receiving.rx.count, false);
-    let clock = laid_clock(bridge.clock, hot.watching, hot.sin);
-    let mut after = bridge;
-    after.control = control;
-    after.sending = sending;
-    after.receiving = receiving;
-    after.clock = clock;
-    after
+    let sender = laid_sender(bridge.sending.sender, rests, hot.gone);
+    Bridge {
+        control: plan::settled(bridge.control, bridge.receiving.rx.count, false),
+        sending: Sending {
+            sender,
+            ..bridge.sending
+        },
+        receiving: reader::with_ear(bridge.receiving, hot.ear),
+        clock: Clock {
+            watching: hot.watching,
+            sin: hot.sin,
+            ..bridge.clock
+        },
+        ..bridge
+    }
 }

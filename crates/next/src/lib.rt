@@ -33,10 +33,11 @@ fn start(queue: Queue) -> Next
 {
     if queue.begun < queue.used {
         let place = queue.places[queue.begun as usize];
-        if 0 < place.words {
-            return Next::StartWords;
-        }
-        return Next::StartEnds;
+        return if 0 < place.words {
+            Next::StartWords
+        } else {
+            Next::StartEnds
+        };
     }
     Next::Stay
 }
@@ -47,9 +48,7 @@ pub fn choose(sending: Sending, may: bool) -> Next
     ensures { result ≡ choose_of sending may }
 {
     let sender = sending.sender;
-    let queue = sending.queue;
-    let piece = sender.piece;
-    if sender.gone < line::piece_length(piece) {
+    if sender.gone < line::piece_length(sender.piece) {
         return Next::GoOn;
     }
     if 0 < sender.left {
@@ -62,7 +61,7 @@ pub fn choose(sending: Sending, may: bool) -> Next
         return Next::LoadEnd;
     }
     if may {
-        return start(queue);
+        return start(sending.queue);
     }
     Next::Stay
 }
@@ -70,53 +69,31 @@ pub fn choose(sending: Sending, may: bool) -> Next
 pub fn bit_sent(next: Next, sender: Sender, word: u16) -> bool
     ensures { result ≡ bit_sent next sender word }
 {
-    let piece = sender.piece;
     match next {
-        Next::GoOn => line::piece_bit(piece, sender.gone),
+        Next::GoOn => line::piece_bit(sender.piece, sender.gone),
         Next::LoadWord => line::piece_bit(Piece::WordPiece(word), 0),
-        Next::Starve => true,
-        Next::LoadEnd => true,
         Next::StartWords => false,
-        Next::StartEnds => true,
-        Next::Stay => true,
+        Next::Starve | Next::LoadEnd | Next::StartEnds | Next::Stay => true,
     }
 }
 
 pub fn is_starve(next: Next) -> bool
     ensures { result ≡ is_starve next }
 {
-    match next {
-        Next::GoOn => false,
-        Next::LoadWord => false,
-        Next::Starve => true,
-        Next::LoadEnd => false,
-        Next::StartWords => false,
-        Next::StartEnds => false,
-        Next::Stay => false,
-    }
+    matches!(next, Next::Starve)
 }
 
 pub fn is_start(next: Next) -> bool
     ensures { result ≡ is_start next }
 {
-    match next {
-        Next::GoOn => false,
-        Next::LoadWord => false,
-        Next::Starve => false,
-        Next::LoadEnd => false,
-        Next::StartWords => true,
-        Next::StartEnds => false,
-        Next::Stay => false,
-    }
+    matches!(next, Next::StartWords)
 }
 
 // What the registers say of a start.
 pub fn may_start(control: Control) -> bool
     ensures { result ≡ may_start control }
 {
-    let mode = control.mode;
-    let normal = registers::is_normal(mode);
-    let por = control.flags.por;
+    let normal = registers::is_normal(control.mode);
     let blocked = registers::blocking(control.flags);
-    normal & !por & !blocked
+    normal & !control.flags.por & !blocked
 }

@@ -1,4 +1,5 @@
 -- Nights one after the other are one night. Assumes nothing.
+use Rattle.std.specs.Prelude.{Option, None, Some}
 use mathlib.Core.Path.{◌≡◌, refl, sym, ◌∙◌, ap, ap₂, subst}
 use mathlib.Core.Bool.{Bool}
 use mathlib.Core.List.{List, [], ◌∷◌, ◌++◌}
@@ -13,8 +14,6 @@ use Rattle.events.specs.declared.Event.{Event}
 use Rattle.bridge.specs.Runs.{Config, end_of, sout_of}
 use Rattle.bridge.proofs.Reached.{Obeys, obeys_whole, run_obeys}
 use Rattle.script.specs.Script.{value_of, record_of}
-use Rattle.script.specs.declared.Record.{Record}
-use Rattle.script.specs.declared.Record.TheVariants.{Good, Bad}
 use Rattle.whole_night.specs.Night.{Told, events, wrong, before, events_in, bytes_in, End, all_done, night}
 use Rattle.whole_night.proofs.Theorems.{four_each, all_done_lem}
 use Rattle.night_order.specs.Line.{sout_in}
@@ -26,18 +25,18 @@ not_wrong : {A : Type 0} (es : List Event) → wrong ≡ events es → A
 not_wrong es h = let z : ◌≡◌ {A = ℕ} 0 1 = cc in absurd (omega arith)
 
 -- the first record of a list of events is an event, and the others say the others
-record First (r : Record) (told : Told) (es : List Event) : Type 0 where
+record First (r : Option Event) (told : Told) (es : List Event) : Type 0 where
   e : Event
   others : List Event
-  good : r ≡ Good e
+  good : r ≡ Some e
   told_is : told ≡ events others
   all_are : es ≡ e ∷ others
 
-first_of_lem : (r : Record) (told : Told) (es : List Event) → before r told ≡ events es → First r told es
+first_of_lem : (r : Option Event) (told : Told) (es : List Event) → before r told ≡ events es → First r told es
 unfolding before
-first_of_lem (Good e) (events others) es h = record { e = e; others = others; good = refl; told_is = refl; all_are = cc }
-first_of_lem (Good e) wrong es h = not_wrong es h
-first_of_lem Bad told es h = not_wrong es h
+first_of_lem (Some e) (events others) es h = record { e = e; others = others; good = refl; told_is = refl; all_are = cc }
+first_of_lem (Some e) wrong es h = not_wrong es h
+first_of_lem None told es h = not_wrong es h
 
 -- two lists of whole records, one behind the other
 pub told_append : (a b : List ℕ) (es more : List Event) → events_in a ≡ events es → events_in b ≡ events more → events_in (a ++ b) ≡ events (es ++ more)

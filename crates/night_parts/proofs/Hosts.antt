@@ -1,4 +1,5 @@
 -- Host words that are done in place, as the functions' proofs ask them. Assumes nothing.
+use Rattle.std.specs.Prelude.{Option, None, Some}
 use mathlib.Core.Path.{◌≡◌, refl, sym, ◌∙◌, ap, subst}
 use mathlib.Core.Bool.{Bool, true, false}
 use mathlib.Core.List.{List}
@@ -17,8 +18,6 @@ use Rattle.state.specs.declared.Deed.TheVariants.{Leave, Enqueue, TakeBack, Clea
 use Rattle.state.specs.declared.Phase.{Phase}
 use Rattle.state.specs.declared.Receiving.{Receiving}
 use Rattle.state.specs.declared.Ring.{Ring}
-use Rattle.state.specs.declared.Store.{Store}
-use Rattle.state.specs.declared.Store.TheVariants.{Keep, Put}
 use Rattle.plan.specs.Plan.{settled, marked, cleared_away, received, concluded, xmodem_after, performed}
 use Rattle.plan.specs.declared.Plan.{Plan}
 use Rattle.host.specs.Frames.{planned}
@@ -34,7 +33,7 @@ use Rattle.listing.proofs.Records.{word_at}
 use Rattle.listing.proofs.Laws.{again, event_now}
 use Rattle.night_parts.specs.Place.{acts, count_after}
 
-pub to_count : (st v : Store) (n x : ℕ) → st ≡ v → x ≡ count_after n v → x ≡ count_after n st
+pub to_count : (st v : Option ℕ) (n x : ℕ) → st ≡ v → x ≡ count_after n v → x ≡ count_after n st
 to_count st v n x h e = rw h e
 
 leaves : (d : Deed) → acts d ≡ false → d ≡ Leave
@@ -44,10 +43,10 @@ leaves (TakeBack n) h = cc
 leaves ClearAll h = cc
 leaves ResetAll h = cc
 
-ring_after_lem : (r : Ring) (st : Store) → ring_after r st ≡ record { head = r.head; count = count_after r.count st }
+ring_after_lem : (r : Ring) (st : Option ℕ) → ring_after r st ≡ record { head = r.head; count = count_after r.count st }
 unfolding ring_after
-ring_after_lem r Keep = refl
-ring_after_lem r (Put w) = refl
+ring_after_lem r None = refl
+ring_after_lem r (Some w) = refl
 
 -- the record that a plan without a deed leaves
 abbrev left : Layouts → Bridge → Clock → Plan → Bridge

@@ -1,4 +1,5 @@
 -- Laws of a run of quiet ticks, as the functions' proofs ask them. Assumes nothing.
+use Rattle.std.specs.Prelude.{Option, None, Some}
 use mathlib.Core.Path.{◌≡◌, refl, sym, ◌∙◌, ap, subst}
 use mathlib.Core.Bool.{Bool, true, false}
 use mathlib.Core.List.{List}
@@ -22,8 +23,7 @@ use Rattle.bridge.specs.Fit.{Fit, Kept}
 use Rattle.bridge.proofs.Keeping.{turn_keeps}
 use Rattle.lull.specs.Lull.{hot_of, rests_in, reach, quiet_by, next_hot, quiet_bit, laid, laid_by, quiet_answer}
 use Rattle.lull.specs.declared.Hot.{Hot}
-use Rattle.lull.specs.declared.Quiet.{Quiet}
-use Rattle.lull.proofs.Ticks.{quiet_turn, gone_within}
+use Rattle.lull.proofs.Ticks.{quiet_turn, gone_within, was_quiet}
 use Rattle.listing.specs.Records.{event_at}
 use Rattle.listing.specs.Results.{put}
 use Rattle.listing.specs.Run.{Moment, put_answer, list_of, Ahead, Gone}
@@ -85,11 +85,18 @@ module _ (records : List ℕ) (many : ℕ) (b : Bridge) (from : ℕ) (s₀ : Lis
       gone = gone_within still (is_nothing (hear h.ear sin).found) h.gone b.sending.sender q;
     }
 
-  pub hush_more : (to : ℕ) → to ≡ reach b.sending.sender → (q : Quiet) (x : Bool) (u : List ℕ)
-      → q ≡ record { passes = quiet_by h to still sin; hot = next_hot h still sin } → q.passes ≡ true
-      → x ≡ quiet_bit h b.sending.sender.piece still → u ≡ put s k 0 no_answer x → Hush records many b from s₀ (k + 1) still q.hot u
-  hush_more to t q x u e p o w =
-      rw (w, o, e) (more (subst (λ (m : ℕ). quiet_by h m still sin ≡ true) t (sym (ap (λ (y : Quiet). y.passes) e) ∙ p)))
+  pub hush_more : (to : ℕ) → to ≡ reach b.sending.sender → (q : Option Hot) (g : Hot) (x : Bool) (u : List ℕ)
+      → q ≡ pick (quiet_by h to still sin) (Some (next_hot h still sin)) None → q ≡ Some g
+      → x ≡ quiet_bit h b.sending.sender.piece still → u ≡ put s k 0 no_answer x → Hush records many b from s₀ (k + 1) still g u
+  hush_more to t q g x u e p o w =
+      let y = was_quiet (quiet_by h to still sin) (next_hot h still sin) g (sym e ∙ p) in
+      rw (w, o, y.1) (more (subst (λ (m : ℕ). quiet_by h m still sin ≡ true) t y.0))
+
+-- every event of the list was such a tick
+pub hush_end : (records : List ℕ) (many : ℕ) (b : Bridge) (from : ℕ) (s₀ : List ℕ) (k : ℕ) (still : Bool) (h : Hot) (s : List ℕ)
+    → Hush records many b from s₀ k still h s → many ≤ k → Hush records many b from s₀ many still h s
+hush_end records many b from s₀ k still h s v l =
+    let z : k ≡ many = omega (arith, v.most) in subst (λ (n : ℕ). Hush records many b from s₀ n still h s) z v
 
 -- the next event's bytes
 module _ (records : List ℕ) (many : ℕ) (b : Bridge) (from : ℕ) (s₀ : List ℕ) (k : ℕ) (still : Bool) (h : Hot) (s : List ℕ)

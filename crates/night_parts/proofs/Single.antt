@@ -1,6 +1,7 @@
 -- One event of each kind in a list's run, as the functions' proofs ask them. Assumes nothing.
+use Rattle.std.specs.Prelude.{Option, None, Some, IsSome}
 use mathlib.Core.Path.{◌≡◌, refl, sym, ◌∙◌, ap, subst}
-use mathlib.Core.Bool.{Bool, true}
+use mathlib.Core.Bool.{Bool, true, false}
 use mathlib.Core.List.{List}
 use Prim.Native.Nat.{ℕ, ◌+◌, ◌-◌, ◌*◌, ◌<◌, ◌≤◌}
 use native.Mathlib.Omega.{arith}
@@ -22,13 +23,23 @@ use Rattle.events.specs.declared.Event.TheVariants.{Release, Tick, Clock as Cloc
 use Rattle.script.specs.Script.{value_of}
 use Rattle.listing.specs.Results.{put}
 use Rattle.listing.specs.Run.{Ahead, Lent, Gone}
-use Rattle.listing.specs.Records.{is_event, event_at}
+use Rattle.listing.specs.Records.{is_good, event_of, record_at, is_event, event_at}
 use Rattle.listing.proofs.Records.{each_event, word_only, release_at, tick_at, clock_at_lem}
 use Rattle.listing.proofs.Laws.{put_length, again, begins, event_now, joined}
 use Rattle.night_parts.specs.Parts.{Onward, Apart, Further}
 
 pub to_kind : (x y n : ℕ) → x ≡ y → x ≡ n → y ≡ n
 to_kind x y n e h = sym e ∙ h
+
+-- a record that is an event: what was read of it
+pub to_power : (r : Option Event) (s : List ℕ) (k : ℕ) (e : Event) → r ≡ record_at s k → r ≡ Some e → e ≡ event_at s k
+unfolding event_of
+to_power r s k e h i = rw (sym h ∙ i) refl
+
+is_read : (r g : Option Event) → r ≡ g → is_good g ≡ true → IsSome r
+unfolding is_good
+is_read (Some e) g h i = refl
+is_read None g h i = let z : ◌≡◌ {A = Bool} false true = ap is_good h ∙ i in cc
 
 pub further : (from k : ℕ) → (from ≡ k → ⊥) → from ≤ k → from < k
 further from k f l = omega arith
@@ -123,6 +134,9 @@ module _ (records : List ℕ) (many from : ℕ) (b₀ : Bridge) (s₀ : List ℕ
   pub apart_last : from < many → many ≤ k → Further records many from b₀ s₀ k b s
   apart_last h l = record { apart = v; some = omega arith }
 
+  pub apart_end : from < many → many ≤ k → k ≤ many → Further records many from b₀ s₀ many b s
+  apart_end h l m = let z : k ≡ many = omega arith in subst (λ (n : ℕ). Further records many from b₀ s₀ n b s) z (apart_last h l)
+
   pub apart_other : (kind x : ℕ) → get_or records (from * 3) 0 ≡ kind → x ≡ get_or records (k * 3) 0 → (x ≡ kind → ⊥)
       → Further records many from b₀ s₀ k b s
   apart_other kind x h e n = record { apart = v; some = past records kind from k h (λ i. n (e ∙ i)) v.least }
@@ -165,6 +179,9 @@ lent_record records many from b tx rx s l = omega (arith, l.list.bytes, l.one)
 module _ (records : List ℕ) (many from : ℕ) (b : Bridge) (tx rx s : List ℕ) (l : Lent records many from b tx rx s) where
   good : is_event records from ≡ true
   good = each_event records many l.list.events from l.one
+
+  pub lent_read : (r : Option Event) → r ≡ record_at records from → IsSome r
+  lent_read r e = is_read r (record_at records from) e good
 
   pub lent_release : get_or records (from * 3) 0 ≡ 2 → Release ≡ event_at records from
   lent_release h = release_at records from good h

@@ -12,11 +12,9 @@ pub fn clocks(bridge: Bridge, records: &[u8], results: &mut [u8], from: usize, m
     ensures { Further records.now many from bridge results.old result.k result.bridge results.new }
 {
     let mut b = bridge;
-    let mut k = from;
-    while k < many {
-        let next = k + 1;
+    for k in from..many {
         if bytes::kind_at(records, k) != 4 {
-            return Part { bridge: b, k: k };
+            return Part { bridge: b, k };
         }
         listing::put_quiet(results, k, true);
         let reading = bytes::value_at(records, k);
@@ -27,7 +25,6 @@ pub fn clocks(bridge: Bridge, records: &[u8], results: &mut [u8], from: usize, m
         b.control = control;
         b.clock.reading = reading;
         b.clock.watching = watching;
-        k = next;
     }
-    Part { bridge: b, k: k }
+    Part { bridge: b, k: many }
 }

@@ -104,7 +104,7 @@ pub fn next_part(
 {
     match bytes::kind_at(records, from) {
         0 => {
-            let power = listing::event_at(records, from);
+            let power = listing::record_at(records, from).unwrap();
             alone(bridge, tx, rx, records, results, from, many, power)
         }
         2 => release(bridge, tx, rx, records, results, from, many),

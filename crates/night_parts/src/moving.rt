@@ -40,15 +40,8 @@ fn released(phase: Phase) -> Move
 {
     match phase {
         Phase::Idle => freed(),
-        Phase::Collecting {
-            command: _,
-            got: _,
-            crc: _,
-            mine: _,
-            released: _,
-            blocked: _,
-        } => none(),
-        Phase::Answering { reply: _, crc: _ } => freed(),
+        Phase::Collecting { .. } => none(),
+        Phase::Answering { .. } => freed(),
         Phase::Discarding => freed(),
     }
 }
@@ -66,10 +59,7 @@ fn replied(reply: Reply, crc: u16) -> Move
             },
         },
         Reply::Data(_) => none(),
-        Reply::Registers {
-            address: _,
-            left: _,
-        } => none(),
+        Reply::Registers { .. } => none(),
         Reply::Check => Move {
             moves: true,
             sdo: crc,
@@ -83,14 +73,7 @@ fn answered(phase: Phase) -> Move
 {
     match phase {
         Phase::Idle => none(),
-        Phase::Collecting {
-            command: _,
-            got: _,
-            crc: _,
-            mine: _,
-            released: _,
-            blocked: _,
-        } => none(),
+        Phase::Collecting { .. } => none(),
         Phase::Answering { reply, crc } => replied(reply, crc),
         Phase::Discarding => none(),
     }

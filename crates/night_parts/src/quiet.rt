@@ -23,37 +23,21 @@ pub fn run(bridge: Bridge, records: &[u8], results: &mut [u8], from: usize, many
     let rests = lull::rests_in(bridge);
     let reach = lull::reach(bridge.sending.sender);
     let mut hot = lull::hot_of(bridge);
-    let mut k = from;
-    while k < many {
-        let next = k + 1;
+    for k in from..many {
         if bytes::kind_at(records, k) != 3 {
-            return Ran {
-                k: k,
-                rests: rests,
-                hot: hot,
-            };
+            return Ran { k, rests, hot };
         }
         let sin = bytes::bit_at(records, k);
-        let sender = bridge.sending.sender;
-        let piece = sender.piece;
-        let quiet = lull::tick(hot, reach, rests, sin);
-        let passes = quiet.passes;
-        if passes {
-            let sout = lull::bit(hot, piece, rests);
-            listing::put_quiet(results, k, sout);
-            hot = quiet.hot;
-            k = next;
-        } else {
-            return Ran {
-                k: k,
-                rests: rests,
-                hot: hot,
-            };
-        }
+        let Some(after) = lull::tick(hot, reach, rests, sin) else {
+            return Ran { k, rests, hot };
+        };
+        let sout = lull::bit(hot, bridge.sending.sender.piece, rests);
+        listing::put_quiet(results, k, sout);
+        hot = after;
     }
     Ran {
-        k: k,
-        rests: rests,
-        hot: hot,
+        k: many,
+        rests,
+        hot,
     }
 }

@@ -22,10 +22,11 @@ pub fn ticks(
 {
     let mut b = bridge;
     let mut k = from;
+    // Stays: a pass does one event or a run of them, so no range counts the passes.
     while k < many {
         let next = k + 1;
         if bytes::kind_at(records, k) != 3 {
-            return Part { bridge: b, k: k };
+            return Part { bridge: b, k };
         }
         let g = quiet::run(b, records, results, k, many);
         let to = g.k;
@@ -42,5 +43,5 @@ pub fn ticks(
         b = answer.state;
         k = next;
     }
-    Part { bridge: b, k: k }
+    Part { bridge: b, k }
 }

@@ -5,7 +5,7 @@ ghost use Rattle.night_parts.specs.Parts.{Onward};
 ghost use Rattle.night_parts.specs.Place.{acts as acts_of, count_after};
 
 use crate::{Part, bytes, moving};
-use state::{Bridge, Deed, Frame, Note, Store};
+use state::{Bridge, Deed, Frame, Note};
 
 // The sending side is changed by more than a stored word.
 fn acts(deed: Deed) -> bool
@@ -20,13 +20,13 @@ fn acts(deed: Deed) -> bool
     }
 }
 
-fn count_after(count: u16, store: Store) -> u16
+fn count_after(count: u16, store: Option<u16>) -> u16
     requires { count ≤ 512 }
     ensures { result ≡ count_after count store }
 {
     match store {
-        Store::Keep => count,
-        Store::Put(_) => count + 1,
+        None => count,
+        Some(_) => count + 1,
     }
 }
 
@@ -45,6 +45,7 @@ pub fn words(
 {
     let mut b = bridge;
     let mut k = from;
+    // Stays: a pass does one event or a run of them, so no range counts the passes.
     while k < many {
         let next = k + 1;
         let kind = bytes::kind_at(records, k);
@@ -70,7 +71,7 @@ pub fn words(
             continue;
         }
         if kind != 1 {
-            return Part { bridge: b, k: k };
+            return Part { bridge: b, k };
         }
         let word = bytes::value_at(records, k);
         let g = pouring::run(b, tx, records, results, k, many);
@@ -104,8 +105,8 @@ pub fn words(
         let xmodem = plan::xmodem_after(b, phase);
         let frame = Frame {
             phase: ended,
-            held: held,
-            xmodem: xmodem,
+            held,
+            xmodem,
         };
         b.control = control;
         b.sending.tx.count = count;
@@ -114,5 +115,5 @@ pub fn words(
         b.clock = clock;
         k = next;
     }
-    Part { bridge: b, k: k }
+    Part { bridge: b, k }
 }

@@ -5,12 +5,11 @@
 
 use events::Event;
 use line::Piece;
-use state::{Bridge, Clock};
+use state::Bridge;
 use std::io;
 
 fn event(start: Bridge, tx: &mut [u16], rx: &mut [u16], event: Event) -> Bridge {
-    let answer = bridge::step(start, tx, rx, event);
-    answer.state
+    bridge::step(start, tx, rx, event).state
 }
 
 // A frame's CRC word, then chip select released.
@@ -32,10 +31,6 @@ fn cleared(tx: &mut [u16], rx: &mut [u16]) -> Bridge {
     frame(Bridge::good(), tx, rx, &[0xB007, 0x8000])
 }
 
-fn print_number(rt: &impl Print, before: &str, number: u64, after: &str) -> io::Result<()> {
-    print!(rt; "{before}{number}{after}")
-}
-
 // "No words, 3 extra ENDs": FWD_WR_END.
 fn ends_alone(rt: &impl Print) -> io::Result<()> {
     let mut tx = [0u16; 512];
@@ -43,19 +38,7 @@ fn ends_alone(rt: &impl Print) -> io::Result<()> {
     let ready = cleared(&mut tx, &mut rx);
     let queued = frame(ready, &mut tx, &mut rx, &[0x5060]);
     let drained = drain::drain(queued, &mut tx, &mut rx, 1000);
-    print_number(
-        rt,
-        "no words, 3 extra ENDs: ",
-        drained.ticks as u64,
-        " ticks\n",
-    )
-}
-
-fn print_flag(rt: &impl Print, bridge: Bridge) -> io::Result<()> {
-    if bridge.control.flags.sin {
-        return println!(rt; "SIN flag 1");
-    }
-    println!(rt; "SIN flag 0")
+    println!(rt; "no words, 3 extra ENDs: {} ticks", drained.ticks)
 }
 
 // A clock reading, and the SIN flag after it.
@@ -67,13 +50,9 @@ fn read_clock(
     reading: u16,
 ) -> io::Result<Bridge> {
     let after = event(start, tx, rx, Event::Clock(reading));
-    print_number(rt, "reading ", reading as u64, ": ")?;
-    print_flag(rt, after)?;
+    let flag = if after.control.flags.sin { 1 } else { 0 };
+    println!(rt; "reading {reading}: SIN flag {flag}")?;
     Ok(after)
-}
-
-fn print_mark(rt: &impl Print, clock: Clock) -> io::Result<()> {
-    print_number(rt, "mark ", clock.watch_mark as u64, ", ")
 }
 
 // "Mark 65,533": a start bit when that is the last reading, then readings past the wrap; SIN does not change.
@@ -84,7 +63,7 @@ fn watch(rt: &impl Print) -> io::Result<()> {
     let read = event(ready, &mut tx, &mut rx, Event::Clock(65533));
     let queued = frame(read, &mut tx, &mut rx, &[0x2000, 0xAAF0]);
     let begun = event(queued, &mut tx, &mut rx, Event::Tick(true));
-    print_mark(rt, begun.clock)?;
+    print!(rt; "mark {}, ", begun.clock.watch_mark)?;
     let first = read_clock(rt, begun, &mut tx, &mut rx, 1)?;
     read_clock(rt, first, &mut tx, &mut rx, 2)?;
     Ok(())
@@ -121,8 +100,10 @@ fn bad_after(rt: &impl Print, words: u32) -> io::Result<()> {
     let asked = event(bad, &mut tx, &mut rx, Event::Word(0xD00B));
     let told = event(asked, &mut tx, &mut rx, Event::Word(0xB943));
     let answer = bridge::step(told, &mut tx, &mut rx, Event::Word(0xFFFF));
-    print_number(rt, "bad word behind ", words as u64, " right ones: ")?;
-    print_number(rt, "register 11 reads ", answer.sdo as u64, "\n")
+    println!(rt;
+        "bad word behind {words} right ones: register 11 reads {}",
+        answer.sdo
+    )
 }
 
 fn main(rt: HostRuntime) -> io::Result<()> {

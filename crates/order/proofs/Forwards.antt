@@ -1,4 +1,5 @@
 -- Forwards: the guard of notes 5, 8 and 9 where it grants, and what each word of a forward does then. Assumes nothing.
+use Rattle.std.specs.Prelude.{Option, None, Some}
 use mathlib.Core.Path.{◌≡◌, refl, ap, sym, ◌∙◌}
 use mathlib.Core.Bool.{Bool, true, false, ◌&&◌, ◌||◌}
 use mathlib.Core.List.{List, [], ◌∷◌, ◌++◌, append_assoc, append-nil}
@@ -18,8 +19,6 @@ use Rattle.state.specs.declared.Note.TheVariants.{Done}
 use Rattle.state.specs.declared.Phase.TheVariants.{Idle, Collecting}
 use Rattle.state.specs.declared.Place.{Place}
 use Rattle.state.specs.declared.Sending.{Sending}
-use Rattle.state.specs.declared.Store.{Store}
-use Rattle.state.specs.declared.Store.TheVariants.{Keep, Put}
 use Rattle.forwards.specs.Forward.{asks_store, granted, wish, guard}
 use Rattle.forwards.specs.declared.Granted.{Granted}
 use Rattle.bridge.specs.Runs.{faults}
@@ -32,7 +31,7 @@ use Rattle.order.proofs.Sending.{less_by, more_by}
 use Rattle.order.proofs.Frames.{Shut, Pending, Released, Open, InFrame, Kept, Goes}
 
 -- Without note 8 or 9 the guard granted the wish: there was room in TX, and as many places as it needs.
-module _ (P : Granted → Type 0) (count : ℕ) (q : Queue) (st : Store) (release : Bool) (p : Place) where
+module _ (P : Granted → Type 0) (count : ℕ) (q : Queue) (st : Option ℕ) (release : Bool) (p : Place) where
   pub guard_grants : (blocked : Bool) → blocked ≡ false
       → ((asks_store st ≡ true → count < 512) → release ≡ true → in_use q + places_of p ≤ 8 → P (granted st (Enqueue p) Done))
       → ((asks_store st ≡ true → count < 512) → release ≡ false → P (granted st Leave Done))
@@ -87,7 +86,7 @@ back_words X ws S n e l =
 
 module _ (s : Sending) (g : Log) (S K : List ℕ) where
   -- The CRC word: of a forward that was queued, of one that queues nothing, of one that is queued now, of one whose words are taken back.
-  pub over_released : (crc : Bool) (k got : ℕ) → Released crc k got g S K → k ≤ got → Goes s g S K Idle Keep Leave true
+  pub over_released : (crc : Bool) (k got : ℕ) → Released crc k got g S K → k ≤ got → Goes s g S K Idle None Leave true
   unfolding came accepts less_by more_by collects Kept
   over_released crc k got h l =
       record {
@@ -99,7 +98,7 @@ module _ (s : Sending) (g : Log) (S K : List ℕ) where
         ends = λ e. refl;
       }
 
-  pub over_pending : (crc : Bool) (k got mine : ℕ) → Pending crc k got mine g S K → k ≡ 0 → Goes s g S K Idle Keep Leave true
+  pub over_pending : (crc : Bool) (k got mine : ℕ) → Pending crc k got mine g S K → k ≡ 0 → Goes s g S K Idle None Leave true
   unfolding came accepts less_by more_by collects Kept
   over_pending crc k got mine h z =
       let n : g.words ≡ [] = nil_of g.words (omega (arith, h.came_are, h.few)) in
@@ -113,7 +112,7 @@ module _ (s : Sending) (g : Log) (S K : List ℕ) where
       }
 
   pub over_queued : (crc : Bool) (k got mine ends : ℕ) (reads : Bool) → Pending crc k got mine g S K → k ≤ got → in_use s.queue + places_of (new_place k ends reads) ≤ 8
-      → Goes s g S K Idle Keep (Enqueue (new_place k ends reads)) true
+      → Goes s g S K Idle None (Enqueue (new_place k ends reads)) true
   unfolding came accepts less_by more_by collects Kept new_place stored
   over_queued crc k got mine ends reads h l u =
       record {
@@ -126,7 +125,7 @@ module _ (s : Sending) (g : Log) (S K : List ℕ) where
       }
 
   pub over_back : (crc : Bool) (k got mine : ℕ) → Pending crc k got mine g S K → mine ≤ s.tx.count
-      → Goes s g S K Idle Keep (TakeBack mine) true
+      → Goes s g S K Idle None (TakeBack mine) true
   unfolding came accepts less_by more_by collects Kept stored ring_after
   over_back crc k got mine h u =
       record {
@@ -138,7 +137,7 @@ module _ (s : Sending) (g : Log) (S K : List ℕ) where
         ends = λ e. refl;
       }
 
-  pub over_nothing : (mine : ℕ) → Shut g S K → mine ≡ 0 → Goes s g S K Idle Keep (TakeBack mine) true
+  pub over_nothing : (mine : ℕ) → Shut g S K → mine ≡ 0 → Goes s g S K Idle None (TakeBack mine) true
   unfolding came accepts less_by more_by collects Kept stored ring_after
   over_nothing mine h z =
       record {
@@ -153,7 +152,7 @@ module _ (s : Sending) (g : Log) (S K : List ℕ) where
   module _ (crc : Bool) (k ends : ℕ) (reads : Bool) (sum : ℕ) (blocked : Bool) (b : blocked ≡ false) where
     -- The command word: a place of ENDs alone is queued, or nothing yet.
     pub begun_queued : Shut g S K → in_use s.queue + places_of (new_place k ends reads) ≤ 8 → crc ≡ false
-        → Goes s g S K (Collecting (Forward crc k ends reads) 0 sum 0 true blocked) Keep (Enqueue (new_place k ends reads)) false
+        → Goes s g S K (Collecting (Forward crc k ends reads) 0 sum 0 true blocked) None (Enqueue (new_place k ends reads)) false
     unfolding came accepts less_by more_by collects Kept InFrame Open settle new_place stored
     begun_queued h u c =
         record {
@@ -173,7 +172,7 @@ module _ (s : Sending) (g : Log) (S K : List ℕ) where
           ends = λ e. never false e refl;
         }
 
-    pub begun_pending : Shut g S K → Goes s g S K (Collecting (Forward crc k ends reads) 0 sum 0 false blocked) Keep Leave false
+    pub begun_pending : Shut g S K → Goes s g S K (Collecting (Forward crc k ends reads) 0 sum 0 false blocked) None Leave false
     unfolding came accepts less_by more_by collects Kept InFrame Open settle
     begun_pending h =
         record {
@@ -197,7 +196,7 @@ module _ (s : Sending) (g : Log) (S K : List ℕ) where
     module _ (got w : ℕ) (small : w < 65536) (room : s.tx.count < 512) (due : got < k) where
       -- A data word: it releases, or not yet, or its forward was released before.
       pub word_queued : (mine : ℕ) → Pending crc k got mine g S K → in_use s.queue + places_of (new_place k ends reads) ≤ 8 → crc ≡ false
-          → Goes s g S K (Collecting (Forward crc k ends reads) (got + 1) sum 0 true blocked) (Put w) (Enqueue (new_place k ends reads)) false
+          → Goes s g S K (Collecting (Forward crc k ends reads) (got + 1) sum 0 true blocked) (Some w) (Enqueue (new_place k ends reads)) false
       unfolding came accepts less_by more_by collects Kept InFrame Open settle new_place stored
       word_queued mine h u c =
           record {
@@ -218,7 +217,7 @@ module _ (s : Sending) (g : Log) (S K : List ℕ) where
           }
 
       pub word_pending : (mine : ℕ) → Pending crc k got mine g S K → (crc ≡ false → got + 1 ≡ k → k ≡ 0)
-          → Goes s g S K (Collecting (Forward crc k ends reads) (got + 1) sum (mine + 1) false blocked) (Put w) Leave false
+          → Goes s g S K (Collecting (Forward crc k ends reads) (got + 1) sum (mine + 1) false blocked) (Some w) Leave false
       unfolding came accepts less_by more_by collects Kept InFrame Open settle
       word_pending mine h v =
           record {
@@ -240,7 +239,7 @@ module _ (s : Sending) (g : Log) (S K : List ℕ) where
           }
 
       pub word_released : (mine : ℕ) → Released crc k got g S K
-          → Goes s g S K (Collecting (Forward crc k ends reads) (got + 1) sum mine true blocked) (Put w) Leave false
+          → Goes s g S K (Collecting (Forward crc k ends reads) (got + 1) sum mine true blocked) (Some w) Leave false
       unfolding came accepts less_by more_by collects Kept InFrame Open settle
       word_released mine h =
           record {

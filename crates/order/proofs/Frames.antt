@@ -1,5 +1,6 @@
 -- The host's frames: what the open frame and the accepted list say of the words stored and the places queued, and that every plan that meets
 -- no fault keeps it. Assumes nothing.
+use Rattle.std.specs.Prelude.{Option, None}
 use mathlib.Core.Path.{◌≡◌, refl, sym, ◌∙◌}
 use mathlib.Core.Bool.{Bool, true, false, ◌||◌}
 use mathlib.Core.List.{List, [], ◌∷◌, ◌++◌, append-nil}
@@ -18,8 +19,6 @@ use Rattle.state.specs.declared.Deed.TheVariants.{Leave, ClearAll, ResetAll}
 use Rattle.state.specs.declared.Phase.{Phase}
 use Rattle.state.specs.declared.Phase.TheVariants.{Idle, Collecting, Answering, Discarding}
 use Rattle.state.specs.declared.Sending.{Sending}
-use Rattle.state.specs.declared.Store.{Store}
-use Rattle.state.specs.declared.Store.TheVariants.{Keep}
 use Rattle.plan.specs.declared.Plan.{Plan}
 use Rattle.bridge.specs.Runs.{AllSent}
 use Rattle.order.specs.Accepted.{Log, came, accepts, collects, joined, settle, listed}
@@ -116,7 +115,7 @@ listed_kept (Answering reply sum) g S K h = listed_shut g S K h
 listed_kept Discarding g S K h = listed_shut g S K h
 
 -- What a plan asks, with no fault, and the frame that it leaves.
-pub record Goes (s : Sending) (g : Log) (S K : List ℕ) (ph : Phase) (st : Store) (d : Deed) (status : Bool) : Type 0 where
+pub record Goes (s : Sending) (g : Log) (S K : List ℕ) (ph : Phase) (st : Option ℕ) (d : Deed) (status : Bool) : Type 0 where
   pub storable : Storable s st
   pub feasible : Feasible (stored s st) d
   pub kept : Kept ph (settle (collects ph) g.closed (came g.words st) (g.accepted || accepts d)) (less_by (came S st) d) (more_by K d)
@@ -160,18 +159,18 @@ shut_settled false g S K h =
     }
 
 module _ (s : Sending) (g : Log) (S K : List ℕ) where
-  pub goes_quiet : (ph : Phase) (status : Bool) → Rests ph → (status ≡ true → ph ≡ Idle) → Shut g S K → Goes s g S K ph Keep Leave status
+  pub goes_quiet : (ph : Phase) (status : Bool) → Rests ph → (status ≡ true → ph ≡ Idle) → Shut g S K → Goes s g S K ph None Leave status
   unfolding came accepts less_by more_by
   goes_quiet ph status r e h =
       record { storable = tt; feasible = tt; kept = r _ S K (shut_settled (collects ph) g S K h); ends = e }
 
   -- A transmit clear and a soft reset once all is sent.
   module _ (ph : Phase) (status : Bool) (r : Rests ph) (e : status ≡ true → ph ≡ Idle) (h : Shut g S K) (a : AllSent s) (z : s.tx.count ≡ 0) where
-    pub goes_cleared : Goes s g S K ph Keep ClearAll status
+    pub goes_cleared : Goes s g S K ph None ClearAll status
     unfolding came accepts less_by more_by stored ring_after
     goes_cleared = record { storable = tt; feasible = (a, z); kept = r _ S K (shut_settled (collects ph) g S K h); ends = e }
 
-    pub goes_reset : Goes s g S K ph Keep ResetAll status
+    pub goes_reset : Goes s g S K ph None ResetAll status
     unfolding came accepts less_by more_by stored ring_after
     goes_reset = record { storable = tt; feasible = (a, z); kept = r _ S K (shut_settled (collects ph) g S K h); ends = e }
 

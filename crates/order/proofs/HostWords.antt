@@ -1,4 +1,5 @@
 -- A host word, by the plan that is made of it: it begins a frame, is stored behind the open frame's words, or is passed over. Assumes nothing.
+use Rattle.std.specs.Prelude.{Option, None, Some}
 use mathlib.Core.Path.{◌≡◌, refl, ◌∙◌, ap}
 use mathlib.Core.Bool.{Bool, true, false, ◌&&◌, ◌||◌}
 use mathlib.Core.List.{List, [], ◌∷◌, ◌++◌, append_assoc, append-nil}
@@ -22,8 +23,6 @@ use Rattle.state.specs.declared.Phase.{Phase}
 use Rattle.state.specs.declared.Phase.TheVariants.{Idle, Collecting, Answering, Discarding}
 use Rattle.state.specs.declared.Reply.{Reply}
 use Rattle.state.specs.declared.Reply.TheVariants.{Status, Data, Registers, Check}
-use Rattle.state.specs.declared.Store.{Store}
-use Rattle.state.specs.declared.Store.TheVariants.{Keep, Put}
 use Rattle.forwards.specs.Forward.{just_begun, word_counted, asks_store, granted, guard, clears, forwarded, forward_word, forward_begun}
 use Rattle.host.specs.Frames.{opened, data_word, planned_in}
 use Rattle.writes.specs.Writes.{held_word, register_word}
@@ -51,7 +50,7 @@ unblocked false h = refl
 
 -- Notes 5 and 8 drop the word and leave the frame blocked; else it is stored, and the frame was not blocked.
 guarded : (P : Granted → Type 0) (blocked : Bool) (count : ℕ) (q : Queue) (w : Wish)
-    → ((d : Deed) (n : Note) → (clears d || blocked) ≡ true → P (granted Keep d n))
+    → ((d : Deed) (n : Note) → (clears d || blocked) ≡ true → P (granted None d n))
     → ((d : Deed) (n : Note) → (blocked && (asks_store w.store || w.release)) ≡ false → P (granted w.store d n))
     → P (guard blocked count q w)
 unfolding guard clears
@@ -61,7 +60,7 @@ guarded P blocked count q w drops stores =
     (λ u. pick_keeps P _ _ _ (λ v. pick_keeps P _ _ _ (λ x. stores _ _ t) (λ x. stores _ _ t)) (λ v. stores _ _ t)))
 
 -- what a plan leaves, by its parts
-pub record After (l : Layouts) (spoken : List Layout) (g : Log) (hs : List ℕ) (ph : Phase) (st : Store) (d : Deed) (status : Bool) : Type 0 where
+pub record After (l : Layouts) (spoken : List Layout) (g : Log) (hs : List ℕ) (ph : Phase) (st : Option ℕ) (d : Deed) (status : Bool) : Type 0 where
   pub stands : Stands l spoken ph (settle (collects ph) g.closed (came g.words st) (g.accepted || accepts d)) hs
   pub ends : status ≡ true → ph ≡ Idle
 
@@ -78,7 +77,7 @@ module _ (l : Layouts) (spoken : List Layout) (b : Bridge) (g : Log) (hs : List 
 
   -- A frame that is over, with what was accepted in it.
   over : (ph : Phase) (d : Deed) (status : Bool) → Rests l spoken ph → collects ph ≡ false → (status ≡ true → ph ≡ Idle)
-      → Framed l spoken (joined (g.accepted || accepts d) g.closed g.words) hs → After l spoken g hs ph Keep d status
+      → Framed l spoken (joined (g.accepted || accepts d) g.closed g.words) hs → After l spoken g hs ph None d status
   unfolding came settle
   over ph d status r c e f =
       record { stands = rw c (r _ hs (record { no_words = refl; not_accepted = refl; closed_are = f })); ends = e }
@@ -91,7 +90,7 @@ module _ (l : Layouts) (spoken : List Layout) (b : Bridge) (g : Log) (hs : List 
   unfolding Stands
   rests_answering reply sum i xs h = h
 
-  pub closes : (d : Deed) (status : Bool) → Framed l spoken (joined (g.accepted || accepts d) g.closed g.words) hs → After l spoken g hs Idle Keep d status
+  pub closes : (d : Deed) (status : Bool) → Framed l spoken (joined (g.accepted || accepts d) g.closed g.words) hs → After l spoken g hs Idle None d status
   unfolding collects
   closes d status f = over Idle d status rests_idle refl (λ e. refl) f
 
@@ -100,21 +99,21 @@ module _ (l : Layouts) (spoken : List Layout) (b : Bridge) (g : Log) (hs : List 
     none : (d : Deed) → accepts d ≡ false → Framed l spoken (joined (g.accepted || accepts d) g.closed g.words) hs
     none d e = framed_shut l spoken g hs h _ (or_none _ _ e ∙ h.not_accepted)
 
-    idles : (d : Deed) (status : Bool) → accepts d ≡ false → After l spoken g hs Idle Keep d status
+    idles : (d : Deed) (status : Bool) → accepts d ≡ false → After l spoken g hs Idle None d status
     idles d status e = closes d status (none d e)
 
-    answers : (reply : Reply) (sum : ℕ) → After l spoken g hs (Answering reply sum) Keep Leave false
+    answers : (reply : Reply) (sum : ℕ) → After l spoken g hs (Answering reply sum) None Leave false
     unfolding collects accepts
     answers reply sum = over _ Leave false (rests_answering reply sum) refl (λ e. never false e refl) (none Leave refl)
 
-    discards : After l spoken g hs Discarding Keep Leave false
+    discards : After l spoken g hs Discarding None Leave false
     unfolding Stands collects accepts
     discards = over Discarding Leave false (λ i xs k. k) refl (λ e. never false e refl) (none Leave refl)
 
     -- a frame that goes on
     goes : (command : Command) (got sum mine : ℕ) (released blocked : Bool) (d : Deed) → accepts d ≡ false
         → ((i : Log) (xs : List ℕ) → Shut l spoken i xs → InFrame l spoken command got blocked i xs)
-        → After l spoken g hs (Collecting command got sum mine released blocked) Keep d false
+        → After l spoken g hs (Collecting command got sum mine released blocked) None d false
     unfolding Stands collects settle came
     goes command got sum mine released blocked d e r =
         record {
@@ -145,7 +144,7 @@ module _ (l : Layouts) (spoken : List Layout) (b : Bridge) (g : Log) (hs : List 
   -- The command word of a forward: nothing is stored, whatever is granted.
   begun : (before : List ℕ) (w : ℕ) → hs ≡ before ++ (w ∷ []) → Shut l spoken g before → (crc : Bool) (most ends : ℕ) (reads : Bool)
       → l.decode (get_or spoken (length before) Ours) w ≡ Forward crc most ends reads → (sum mine : ℕ) (released blocked : Bool) (d : Deed)
-      → After l spoken g hs (Collecting (Forward crc most ends reads) 0 sum mine released blocked) Keep d false
+      → After l spoken g hs (Collecting (Forward crc most ends reads) 0 sum mine released blocked) None d false
   unfolding Stands InFrame collects settle came
   begun before w s h crc most ends reads f sum mine released blocked d =
       record {
@@ -181,7 +180,7 @@ module _ (l : Layouts) (spoken : List Layout) (b : Bridge) (g : Log) (hs : List 
     (h : Open l spoken crc most ends reads got blocked g hs) where
   module _ (d : got < most) where
     dropped_word : (sum mine : ℕ) (released now : Bool) (deed : Deed) → now ≡ true
-        → After l spoken g (hs ++ (w ∷ [])) (Collecting (Forward crc most ends reads) (got + 1) sum mine released now) Keep deed false
+        → After l spoken g (hs ++ (w ∷ [])) (Collecting (Forward crc most ends reads) (got + 1) sum mine released now) None deed false
     unfolding Stands InFrame collects settle came
     dropped_word sum mine released now deed e =
         record {
@@ -200,7 +199,7 @@ module _ (l : Layouts) (spoken : List Layout) (b : Bridge) (g : Log) (hs : List 
         }
 
     stored_word : blocked ≡ false → (sum mine : ℕ) (released now : Bool) (deed : Deed)
-        → After l spoken g (hs ++ (w ∷ [])) (Collecting (Forward crc most ends reads) (got + 1) sum mine released now) (Put w) deed false
+        → After l spoken g (hs ++ (w ∷ [])) (Collecting (Forward crc most ends reads) (got + 1) sum mine released now) (Some w) deed false
     unfolding Stands InFrame collects settle came
     stored_word u sum mine released now deed =
         record {
@@ -230,7 +229,7 @@ module _ (l : Layouts) (spoken : List Layout) (b : Bridge) (g : Log) (hs : List 
         _ _ _ _ (λ deed n t. dropped_word sum _ _ _ deed t) (λ deed n t. stored_word (unblocked blocked t) sum _ _ _ deed)
 
   -- the CRC word
-  crc_word_lem : (deed : Deed) (status : Bool) → After l spoken g (hs ++ (w ∷ [])) Idle Keep deed status
+  crc_word_lem : (deed : Deed) (status : Bool) → After l spoken g (hs ++ (w ∷ [])) Idle None deed status
   crc_word_lem deed status =
       closes l spoken b g (hs ++ (w ∷ [])) deed status (on l spoken _ hs (w ∷ []) (framed_open l spoken g hs crc most ends reads got blocked h _))
 

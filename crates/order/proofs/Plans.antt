@@ -1,5 +1,6 @@
 -- Every plan of a host word or of a release of chip select that meets no fault and clears only once all is sent keeps the frames' account.
 -- Assumes nothing.
+use Rattle.std.specs.Prelude.{None, Some}
 use mathlib.Core.Path.{◌≡◌, refl}
 use mathlib.Core.Bool.{Bool, true, false, not, ◌&&◌}
 use mathlib.Core.List.{List, [], ◌∷◌, ◌++◌}
@@ -23,7 +24,6 @@ use Rattle.state.specs.declared.Phase.TheVariants.{Idle, Collecting, Answering, 
 use Rattle.state.specs.declared.Reply.{Reply}
 use Rattle.state.specs.declared.Reply.TheVariants.{Status, Data, Registers, Check}
 use Rattle.state.specs.declared.Sending.{Sending}
-use Rattle.state.specs.declared.Store.TheVariants.{Keep, Put}
 use Rattle.forwards.specs.Forward.{just_begun, word_counted, asks_store, clears, enqueues, mine_after, faulted, forwarded, releases, forward_word, forward_begun}
 use Rattle.host.specs.Frames.{opened, data_word, planned_in, planned}
 use Rattle.release.specs.Release.{released_in}
@@ -57,10 +57,10 @@ Spent b S K = AllSent b.sending → length S ≡ sum K + b.sending.tx.count
 module _ (b : Bridge) (g : Log) (S K : List ℕ) (spent : Spent b S K) where
   -- Plans that leave the sending side alone, or clear it when it has nothing.
   module _ (h : Shut g S K) where
-    quiet : (ph : Phase) → Rests ph → Goes b.sending g S K ph Keep Leave false
+    quiet : (ph : Phase) → Rests ph → Goes b.sending g S K ph None Leave false
     quiet ph r = goes_quiet b.sending g S K ph false r (λ e. never false e refl) h
 
-    quiet_over : Goes b.sending g S K Idle Keep Leave true
+    quiet_over : Goes b.sending g S K Idle None Leave true
     quiet_over = goes_quiet b.sending g S K Idle true rests_idle (λ e. refl) h
 
     none_left : AllSent b.sending → b.sending.tx.count ≡ 0
@@ -70,7 +70,7 @@ module _ (b : Bridge) (g : Log) (S K : List ℕ) (spent : Spent b S K) where
 
     -- Register writes.
     effects : (t : Bool) (ph : Phase) (status : Bool) → Rests ph → (status ≡ true → ph ≡ Idle)
-        → (clears (pick t ClearAll Leave) ≡ true → AllSent b.sending) → Goes b.sending g S K ph Keep (pick t ClearAll Leave) status
+        → (clears (pick t ClearAll Leave) ≡ true → AllSent b.sending) → Goes b.sending g S K ph None (pick t ClearAll Leave) status
     unfolding pick clears
     effects true ph status r e k = goes_cleared b.sending g S K ph status r e h (k refl) (none_left (k refl))
     effects false ph status r e k = goes_quiet b.sending g S K ph status r e h
@@ -111,7 +111,7 @@ module _ (b : Bridge) (g : Log) (S K : List ℕ) (spent : Spent b S K) where
     unfolding forward_begun forwarded mine_after enqueues clears asks_store pick
     forward_begun_lem crc k ends reads sum blocked c a =
         guard_grants (λ (r : Granted). GoesBy b.sending g S K (forwarded b (fwd crc k ends reads) (just_begun sum blocked) r))
-        _ _ Keep _ _ blocked c
+        _ _ None _ _ blocked c
         (λ room t u. begun_queued b.sending g S K crc k ends reads sum blocked c h u (not-true crc (and_l (not crc) _ (and_l _ (ltb 0 ends) t))))
         (λ room t. begun_pending b.sending g S K crc k ends reads sum blocked c h) a.no_fault
 
@@ -133,7 +133,7 @@ module _ (b : Bridge) (g : Log) (S K : List ℕ) (spent : Spent b S K) where
     pending_word blocked c h a =
         guard_grants
         (λ (r : Granted). GoesBy b.sending g S K (forwarded b (fwd crc words ends reads) (word_counted (progress got sum mine false blocked)) r))
-        _ _ (Put w) _ _ blocked c
+        _ _ (Some w) _ _ blocked c
         (λ room t u.
         word_queued b.sending g S K crc words ends reads sum blocked c got w small (room refl) due mine h u
         (not-true crc (and_l (not crc) true (and_l (not crc && true) _ t))))
@@ -154,7 +154,7 @@ module _ (b : Bridge) (g : Log) (S K : List ℕ) (spent : Spent b S K) where
     released_word blocked c h a =
         guard_grants
         (λ (r : Granted). GoesBy b.sending g S K (forwarded b (fwd crc words ends reads) (word_counted (progress got sum mine true blocked)) r))
-        _ _ (Put w) _ _ blocked c
+        _ _ (Some w) _ _ blocked c
         (λ room t u. never false (and_r (not crc) false (and_l (not crc && false) _ t)) refl)
         (λ room t. word_released b.sending g S K crc words ends reads sum blocked c got w small (room refl) due mine h) a.no_fault
 
@@ -184,7 +184,7 @@ module _ (b : Bridge) (g : Log) (S K : List ℕ) (spent : Spent b S K) where
     unfolding forward_closed
     pending_right blocked c h a =
         guard_grants (λ (r : Granted). GoesBy b.sending g S K (closed b (faulted b.control r.note) r.deed LeaveRx r.note)) _ _
-        Keep _ _ blocked c (λ room t u. over_queued b.sending g S K crc words got mine ends reads h all u)
+        None _ _ blocked c (λ room t u. over_queued b.sending g S K crc words got mine ends reads h all u)
         (λ room t. over_pending b.sending g S K crc words got mine h (nothing crc t h)) a.no_fault
 
     released_right : (blocked : Bool) → blocked ≡ false → Released crc words got g S K
@@ -192,7 +192,7 @@ module _ (b : Bridge) (g : Log) (S K : List ℕ) (spent : Spent b S K) where
     unfolding forward_closed
     released_right blocked c h a =
         guard_grants (λ (r : Granted). GoesBy b.sending g S K (closed b (faulted b.control r.note) r.deed LeaveRx r.note)) _ _
-        Keep _ _ blocked c (λ room t u. never crc (and_l crc _ t) h.by_words)
+        None _ _ blocked c (λ room t u. never crc (and_l crc _ t) h.by_words)
         (λ room t. over_released b.sending g S K crc words got h all) a.no_fault
 
     pending_wrong : Pending crc words got mine g S K → Good b g S K (wrong_crc b crc mine)
@@ -269,7 +269,7 @@ module _ (b : Bridge) (g : Log) (S K : List ℕ) (spent : Spent b S K) where
 
   -- what a cut may do
   abbrev Loses : Deed → Type 0
-  Loses d = (clears d ≡ true → AllSent b.sending) → Goes b.sending g S K Idle Keep d false
+  Loses d = (clears d ≡ true → AllSent b.sending) → Goes b.sending g S K Idle None d false
 
   cut_shut : (command : Command) (got mine : ℕ) (released : Bool) → Shut g S K → mine ≡ 0 → Loses (cut_deed command got mine released)
   unfolding cut_deed clears

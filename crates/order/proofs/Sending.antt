@@ -1,5 +1,6 @@
 -- The sending side of the state and the cells of TX keep the line exact: one law a store, a deed, and a thing that a tick does. Assumes
 -- nothing.
+use Rattle.std.specs.Prelude.{Option, None, Some}
 use mathlib.Core.Path.{◌≡◌, refl, ap, sym, ◌∙◌}
 use mathlib.Core.Bool.{Bool, true, false}
 use mathlib.Core.List.{List, [], ◌∷◌, ◌++◌}
@@ -21,8 +22,6 @@ use Rattle.state.specs.declared.Queue.{Queue}
 use Rattle.state.specs.declared.Returned.{Returned}
 use Rattle.state.specs.declared.Sender.{Sender}
 use Rattle.state.specs.declared.Sending.{Sending}
-use Rattle.state.specs.declared.Store.{Store}
-use Rattle.state.specs.declared.Store.TheVariants.{Keep, Put}
 use Rattle.next.specs.Next.{choose, bit_sent, is_starve}
 use Rattle.sender.specs.Sender.{queue_sent, sender_after, advanced, finished}
 use Rattle.next.specs.declared.Next.{Next}
@@ -62,9 +61,9 @@ more_by K ClearAll = K
 more_by K ResetAll = K
 
 -- A store and a deed that meet no fault and lose nothing.
-abbrev pub Storable : Sending → Store → Type 0
-Storable s Keep = Unit {0}
-Storable s (Put w) = (w < 65536) × (s.tx.count < 512)
+abbrev pub Storable : Sending → Option ℕ → Type 0
+Storable s None = Unit {0}
+Storable s (Some w) = (w < 65536) × (s.tx.count < 512)
 
 abbrev pub Feasible : Sending → Deed → Type 0
 Feasible s Leave = Unit {0}
@@ -82,10 +81,10 @@ pub at_rest : (t : Sender) → idle t ≡ true → (piece_length t.piece ≤ t.g
 at_rest t h = (leb-true _ _ (search (and_l, and_r)), eqb-true _ _ (search (and_l, and_r)), eqb-true _ _ (search (and_l, and_r)))
 
 module _ (s : Sending) (cells : List ℕ) (bits : List Bool) (S K : List ℕ) (i : Holds s cells bits S K) where
-  pub holds_stored : (st : Store) → Storable s st → Holds (stored s st) (written 512 cells s.tx st) bits (came S st) K
+  pub holds_stored : (st : Option ℕ) → Storable s st → Holds (stored s st) (written 512 cells s.tx st) bits (came S st) K
   unfolding stored ring_after written came
-  holds_stored Keep h = i
-  holds_stored (Put w) h =
+  holds_stored None h = i
+  holds_stored (Some w) h =
       let e : view 512 (set cells ((s.tx.head + s.tx.count) % 512) w) s.tx.head (s.tx.count + 1) ≡ in_tx s cells ++ (w ∷ [])
       = rw add-one (view_push 512 cells s.tx.head s.tx.count w i.head h.1 i.cells_are) in
       record {

@@ -1,6 +1,6 @@
 -- The accepted commands that carry words, in order (demand 3; "whose accepted list is demand 2's"): a command is accepted by the event whose
 -- plan queues its place, and is in the list from then on with the words of its frame that were stored. Assumes nothing.
-use Rattle.std.specs.Prelude.{Bool, true, false, ◌||◌, List, [], ◌∷◌, ◌++◌, ℕ, ltb}
+use Rattle.std.specs.Prelude.{Bool, true, false, ◌||◌, List, [], ◌∷◌, ◌++◌, ℕ, ltb, Option, None, Some}
 use Rattle.command.specs.Layouts.{Layouts}
 use Rattle.state.specs.Rings.{oldest}
 use Rattle.state.specs.declared.Deed.{Deed}
@@ -8,8 +8,6 @@ use Rattle.state.specs.declared.Deed.TheVariants.{Leave, Enqueue, TakeBack, Clea
 use Rattle.state.specs.declared.Note.TheVariants.{Done}
 use Rattle.state.specs.declared.Phase.{Phase}
 use Rattle.state.specs.declared.Phase.TheVariants.{Idle, Collecting, Answering, Discarding}
-use Rattle.state.specs.declared.Store.{Store}
-use Rattle.state.specs.declared.Store.TheVariants.{Keep, Put}
 use Rattle.plan.specs.Plan.{plain}
 use Rattle.host.specs.Frames.{planned}
 use Rattle.release.specs.Release.{released_in}
@@ -35,9 +33,9 @@ pub record Log : Type 0 where
 abbrev pub no_log : Log
 no_log = record { closed = []; words = []; accepted = false }
 
-unfoldable pub came : List ℕ → Store → List ℕ
-came ws Keep = ws
-came ws (Put w) = ws ++ (w ∷ [])
+unfoldable pub came : List ℕ → Option ℕ → List ℕ
+came ws None = ws
+came ws (Some w) = ws ++ (w ∷ [])
 
 -- a place queued, with words
 unfoldable pub accepts : Deed → Bool

@@ -30,24 +30,20 @@ fn made(kind: u16, a: u16, b: u16, c: u16, d: u16, x: bool, y: bool) -> Parts
     ensures { result ≡ parts kind a b c d x y }
 {
     Parts {
-        kind: kind,
-        a: a,
-        b: b,
-        c: c,
-        d: d,
-        x: x,
-        y: y,
+        kind,
+        a,
+        b,
+        c,
+        d,
+        x,
+        y,
     }
 }
 
 pub fn of_mode(mode: Mode) -> u16
     ensures { result ≡ mode_number mode }
 {
-    match mode {
-        Mode::Normal => 0,
-        Mode::Init => 1,
-        Mode::Failsafe => 2,
-    }
+    mode as u16
 }
 
 pub fn mode(kind: u16) -> Mode
@@ -65,10 +61,7 @@ pub fn mode(kind: u16) -> Mode
 pub fn of_layout(layout: Layout) -> u16
     ensures { result ≡ layout_number layout }
 {
-    match layout {
-        Layout::Ours => 0,
-        Layout::Makers => 1,
-    }
+    layout as u16
 }
 
 pub fn layout(kind: u16) -> Layout
@@ -112,11 +105,11 @@ pub fn of_ear(ear: Ear) -> Parts
     match ear {
         Ear::Quiet => made(0, 0, 0, 0, 0, false, false),
         Ear::Group {
-            number,
-            value,
-            bits,
-            ones,
-        } => made(1, number, value, bits, ones, false, false),
+            number: a,
+            value: b,
+            bits: c,
+            ones: d,
+        } => made(1, a, b, c, d, false, false),
         Ear::Lost { ones } => made(2, 0, 0, 0, ones, false, false),
     }
 }
@@ -129,13 +122,13 @@ pub fn ear(kind: u16, number: u16, value: u16, bits: u16, ones: u16) -> Ear
     }
     if kind == 1 {
         return Ear::Group {
-            number: number,
-            value: value,
-            bits: bits,
-            ones: ones,
+            number,
+            value,
+            bits,
+            ones,
         };
     }
-    Ear::Lost { ones: ones }
+    Ear::Lost { ones }
 }
 
 fn of_command(command: Command) -> Parts
@@ -242,14 +235,14 @@ pub fn of_phase(phase: Phase) -> Parts
     match phase {
         Phase::Idle => made(0, 0, 0, 0, 0, false, false),
         Phase::Collecting {
-            command: _,
             got,
             crc,
             mine,
             released,
             blocked,
+            ..
         } => made(1, got, crc, mine, 0, released, blocked),
-        Phase::Answering { reply: _, crc } => made(2, 0, crc, 0, 0, false, false),
+        Phase::Answering { crc, .. } => made(2, 0, crc, 0, 0, false, false),
         Phase::Discarding => made(3, 0, 0, 0, 0, false, false),
     }
 }
@@ -260,15 +253,8 @@ pub fn of_open(phase: Phase) -> Parts
 {
     match phase {
         Phase::Idle => made(0, 0, 0, 0, 0, false, false),
-        Phase::Collecting {
-            command,
-            got: _,
-            crc: _,
-            mine: _,
-            released: _,
-            blocked: _,
-        } => of_command(command),
-        Phase::Answering { reply, crc: _ } => of_reply(reply),
+        Phase::Collecting { command, .. } => of_command(command),
+        Phase::Answering { reply, .. } => of_reply(reply),
         Phase::Discarding => made(0, 0, 0, 0, 0, false, false),
     }
 }

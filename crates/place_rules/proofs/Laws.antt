@@ -1,13 +1,15 @@
 -- Laws of the definitions, in the form in which the functions' proofs ask them. Assumes nothing.
 use mathlib.Core.Path.{◌≡◌, refl, sym, ◌∙◌}
-use mathlib.Core.Bool.{Bool, true, ◌&&◌}
+use Rattle.std.specs.Prelude.{min}
+use mathlib.Core.Bool.{Bool, true, false, ◌&&◌}
 use mathlib.Core.List.{[], ◌∷◌}
 use Prim.Native.Nat.{ℕ, zero, suc, ◌+◌, ◌*◌, ◌-◌, ◌≤◌, ◌<◌}
 use native.Mathlib.Omega.{arith}
-use borrow.Author.Tests.{lt-leb, le-leb}
+use lib.Dec.{ltb}
+use borrow.Author.Tests.{lt-leb, le-leb, ltb-true, ltb-false}
 use lib.ListN.{length}
 use Rattle.base.specs.Pick.{pick_true, pick_false}
-use Rattle.base.specs.Truth.{and_again, and_end}
+use Rattle.base.specs.Truth.{and_end}
 use Rattle.state.specs.declared.Place.{Place}
 use Rattle.state.specs.declared.Queue.{Queue}
 use Rattle.state.specs.Queue.{place_at, waiting, words_of}
@@ -26,25 +28,25 @@ unfolding waiting
 none_counted q l = record { long = l; most = omega arith; small = omega arith; sum = omega arith }
 
 module _ (q : Queue) (words i : ℕ) (v : Counted q words i) where
-  pub one_counted : (p : Place) (used : ℕ) → p ≡ place_at q i → p.words < 65536 → i < 8 → used ≡ q.used → i < used
-      → Counted q (words + p.words) (i + 1)
+  pub one_counted : (p : Place) → p ≡ place_at q i → p.words < 65536 → i < min q.used 8 → Counted q (words + p.words) (i + 1)
   unfolding words_of
-  one_counted p used e m l u h =
+  one_counted p e m h =
       let k : i < length q.places = omega (arith, v.long) in
       let g : i < q.used = omega arith in
       let r : rest q i ≡ p ∷ rest q (i + 1) = rw e (rest_one q i k g) in
       let o : words_of (rest q i) ≡ p.words + words_of (rest q (i + 1)) = rw r in
       record { long = v.long; most = omega (arith, v.most); small = omega (arith, v.most); sum = omega (arith, v.sum) }
 
-  pub all_counted : (used : ℕ) → used ≡ q.used → used ≤ i → rest q i ≡ []
-  all_counted used u h = rest_none q i (omega arith)
+  all_counted : min q.used 8 ≤ i → rest q i ≡ []
+  all_counted h = go (ltb i q.used) refl
+    where
+      go : (t : Bool) → ltb i q.used ≡ t → rest q i ≡ []
+      go true k = let u : i < q.used = ltb-true _ _ k in rest_past q i (omega (arith, v.long))
+      go false k = rest_none q i (ltb-false _ _ k)
 
-  pub past_counted : 8 ≤ i → rest q i ≡ []
-  past_counted h = rest_past q i (omega (arith, v.long))
-
-  pub summed : rest q i ≡ [] → words ≡ words_of (waiting q)
+  pub summed : min q.used 8 ≤ i → words ≡ words_of (waiting q)
   unfolding words_of
-  summed e = let o : words_of (rest q i) ≡ 0 = rw e in omega (arith, v.sum)
+  summed h = let o : words_of (rest q i) ≡ 0 = rw (all_counted h) in omega (arith, v.sum)
 
 -- the walk over the places in use
 slot_used : (q : Queue) (i : ℕ) (p : Place) (a b : Bool) → p ≡ place_at q i → i < q.used → a ≡ place_sound p → b ≡ role_sound q.begun i p
@@ -72,17 +74,19 @@ unfolding slots_below
 none_slotted q l = record { long = l; most = omega arith; test = refl }
 
 module _ (q : Queue) (good : Bool) (i : ℕ) (v : Slotted q good i) where
-  pub one_slotted : (p : Place) (used begun : ℕ) (a b : Bool) → p ≡ place_at q i → i < 8 → used ≡ q.used → begun ≡ q.begun → i < used → a ≡ place_sound p
-      → b ≡ role_sound begun i p → Slotted q ((good && a) && b) (i + 1)
+  pub one_slotted : (p : Place) (a b : Bool) → p ≡ place_at q i → i < min q.used 8 → a ≡ place_sound p → b ≡ role_sound q.begun i p
+      → Slotted q (good && (a && b)) (i + 1)
   unfolding slots_below
-  one_slotted p used begun a b e l u g h x y =
-      let k : (a && b) ≡ slot_sound q i = slot_used q i p a b e (omega arith) x (rw g at y) in
+  one_slotted p a b e h x y =
+      let k : (a && b) ≡ slot_sound q i = slot_used q i p a b e (omega arith) x y in
       let n : i + 1 ≡ suc i = omega arith in
-      record { long = v.long; most = omega arith; test = rw n (and_again good a b ∙ rw (k, v.test) refl) }
+      record { long = v.long; most = omega arith; test = rw n (rw (k, v.test) refl) }
 
-  pub all_slotted : (used : ℕ) → used ≡ q.used → used ≤ i → good ≡ places_sound q
-  all_slotted used u h =
-      v.test ∙ sym (slots_rest q i (8 - i) 8 (omega (arith, v.most)) (omega arith))
-
-  pub past_slotted : 8 ≤ i → good ≡ places_sound q
-  past_slotted h = let n : i ≡ 8 = omega (arith, v.most) in rw n at v.test
+  pub all_slotted : min q.used 8 ≤ i → good ≡ places_sound q
+  all_slotted h = go (ltb i q.used) refl
+    where
+      go : (t : Bool) → ltb i q.used ≡ t → good ≡ places_sound q
+      go true k = let u : i < q.used = ltb-true _ _ k in let n : i ≡ 8 = omega (arith, v.most) in rw n at v.test
+      go false k =
+          let u : q.used ≤ i = ltb-false _ _ k in
+          v.test ∙ sym (slots_rest q i (8 - i) 8 (omega (arith, v.most)) (omega arith))

@@ -58,17 +58,10 @@ fn role_sound(place: Place, i: u16, begun: u16) -> bool
 fn places_sound(queue: Queue) -> bool
     ensures { result ≡ places_sound queue }
 {
-    let used = queue.used;
-    let begun = queue.begun;
     let mut good = true;
-    let mut i: u16 = 0;
-    while i < used {
-        if 8 <= i {
-            return good;
-        }
+    for i in 0..queue.used.min(8) {
         let place = queue.places[i as usize];
-        good = good & place_sound(place) & role_sound(place, i, begun);
-        i = i + 1;
+        good &= place_sound(place) & role_sound(place, i, queue.begun);
     }
     good
 }
@@ -77,16 +70,10 @@ fn places_sound(queue: Queue) -> bool
 pub fn words_waiting(queue: Queue) -> u32
     ensures { (result ≡ words_of (waiting queue)) × (result ≤ 524280) }
 {
-    let used = queue.used;
     let mut words: u32 = 0;
-    let mut i = queue.begun;
-    while i < used {
-        if 8 <= i {
-            return words;
-        }
+    for i in queue.begun..queue.used.min(8) {
         let place = queue.places[i as usize];
-        words = words + place.words as u32;
-        i = i + 1;
+        words += place.words as u32;
     }
     words
 }

@@ -1,11 +1,11 @@
 -- A plan carried out, by its parts, as the proofs of src/lib.rt ask them. Assumes nothing.
 use mathlib.Core.Path.{◌≡◌, refl, sym, ◌∙◌, ap₂}
-use mathlib.Core.Bool.{Bool, true, false, ◌&&◌}
+use mathlib.Core.Bool.{Bool, true, false, not, ◌&&◌, ◌||◌}
 use Prim.Native.Nat.{ℕ, ◌/◌, ◌%◌}
 use native.Mathlib.Omega.{arith}
 use lib.Dec.{eqb}
 use Rattle.base.specs.Bits.{odd, bit}
-use Rattle.base.specs.Pick.{pick_true, pick_false}
+use Rattle.base.specs.Pick.{pick, pick_true, pick_false}
 use Rattle.plan.specs.Plan.{cleared_away, received, settled, concluded, awaits_command, is_collecting, xmodem_after, performed}
 use Rattle.command.specs.Layouts.{layouts}
 use Rattle.registers.specs.Spictrl.{is_xmodem}
@@ -29,6 +29,17 @@ use Rattle.plan.specs.declared.Receive.TheVariants.{PopRx}
 pub low_bit : (n : ℕ) → eqb (n % 2) 1 ≡ bit 0 n
 unfolding bit odd
 low_bit n = let e : n / 1 ≡ n = omega arith in rw e
+
+-- DRDY by the three tests
+pub drdy_by : (empty exceeded ended drdy : Bool) → (empty || ((drdy && not exceeded) && not ended)) ≡ pick empty true (pick (exceeded || ended) false drdy)
+unfolding pick
+drdy_by true exceeded ended drdy = refl
+drdy_by false true ended true = refl
+drdy_by false true ended false = refl
+drdy_by false false true true = refl
+drdy_by false false true false = refl
+drdy_by false false false true = refl
+drdy_by false false false false = refl
 
 -- the oldest word read
 pub to_popped : (r : Receiving) (v : Receive) (ring : Ring) → v ≡ PopRx → ring ≡ popped 256 r.rx

@@ -1,5 +1,5 @@
 -- A host's plan and how it is carried out (01 Frames; Registers, "Transmit clear", "RX clear", "Soft reset"; The line, DRDY). Assumes nothing.
-use Rattle.std.specs.Prelude.{Bool, true, false, ◌&&◌, ◌||◌, ℕ, ltb, eqb}
+use Rattle.std.specs.Prelude.{Bool, true, false, ◌&&◌, ◌||◌, ℕ, ltb, eqb, None}
 use Rattle.base.specs.Pick.{pick}
 use Rattle.base.specs.Bits.{bit}
 use Rattle.command.specs.Layouts.{Layouts}
@@ -18,7 +18,6 @@ use Rattle.state.specs.declared.Phase.{Phase}
 use Rattle.state.specs.declared.Phase.TheVariants.{Idle, Collecting, Answering, Discarding}
 use Rattle.state.specs.declared.Receiving.{Receiving}
 use Rattle.state.specs.declared.Reply.TheVariants.{Status}
-use Rattle.state.specs.declared.Store.TheVariants.{Keep}
 use Rattle.plan.specs.declared.Plan.{Plan}
 use Rattle.plan.specs.declared.Receive.{Receive}
 use Rattle.plan.specs.declared.Receive.TheVariants.{LeaveRx, PopRx, StopRx, EmptyRx, ResetRx}
@@ -33,7 +32,7 @@ plain b p n = record {
   phase = p;
   held = b.frame.held;
   control = b.control;
-  store = Keep;
+  store = None;
   deed = Leave;
   receive = LeaveRx;
   note = n;

@@ -13,9 +13,10 @@ ghost use Rattle.state.specs.Facts.{RingFit, SendFit, Doable};
 ghost use Rattle.state.specs.Rings.{rx_size};
 ghost use Rattle.state.specs.Sending.{stored};
 
+use command::Command;
 use line::Ear;
 use registers::{Control, Flag};
-use state::{Bridge, Clock, Deed, Frame, Note, Phase, Reader, Receiving, Reply, Store};
+use state::{Bridge, Clock, Deed, Frame, Note, Phase, Progress, Reader, Receiving, Reply, Ring};
 
 // What a plan does to the receiving side: nothing; the oldest word read; the storing of the present command ended (a read of empty RX); RX
 // clear; soft reset.
@@ -34,7 +35,7 @@ pub struct Plan {
     pub phase: Phase,
     pub held: [u16; 12],
     pub control: Control,
-    pub store: Store,
+    pub store: Option<u16>,
     pub deed: Deed,
     pub receive: Receive,
     pub note: Note,
@@ -49,9 +50,21 @@ pub fn raised_in(control: Control, flag: Flag) -> Control
     ensures { result ≡ raised_in control flag }
 {
     let flags = registers::raise(control.flags, flag);
-    let mut after = control;
-    after.flags = flags;
-    after
+    Control { flags, ..control }
+}
+
+// A frame of `command` that has come as far as `at`.
+pub fn collecting(command: Command, at: Progress) -> Phase
+    ensures { result ≡ Phase.Collecting command at.got at.crc at.mine at.released at.blocked }
+{
+    Phase::Collecting {
+        command,
+        got: at.got,
+        crc: at.crc,
+        mine: at.mine,
+        released: at.released,
+        blocked: at.blocked,
+    }
 }
 
 // A plan that only moves the phase and gives a note.
@@ -59,15 +72,14 @@ pub fn plain(bridge: Bridge, phase: Phase, note: Note) -> Plan
     ensures { result ≡ plain_of bridge phase note }
 {
     let held = bridge.frame.held;
-    let control = bridge.control;
     Plan {
-        phase: phase,
-        held: held,
-        control: control,
-        store: Store::Keep,
+        phase,
+        held,
+        control: bridge.control,
+        store: None,
         deed: Deed::Leave,
         receive: Receive::LeaveRx,
-        note: note,
+        note,
         sdo: NO_ANSWER,
         status: false,
     }
@@ -76,10 +88,15 @@ pub fn plain(bridge: Bridge, phase: Phase, note: Note) -> Plan
 fn with_reader(receiving: Receiving, belongs: bool, storing: bool) -> Receiving
     ensures { result ≡ with_reader receiving belongs storing }
 {
-    let mut after = receiving;
-    after.reader.belongs = belongs;
-    after.reader.storing = storing;
-    after
+    let reader = Reader {
+        belongs,
+        storing,
+        ..receiving.reader
+    };
+    Receiving {
+        reader,
+        ..receiving
+    }
 }
 
 // A command whose place is cleared away is neither stored nor compared.
@@ -87,11 +104,8 @@ fn cleared_away(receiving: Receiving, deed: Deed) -> Receiving
     ensures { result ≡ cleared_away receiving deed }
 {
     match deed {
-        Deed::Leave => receiving,
-        Deed::Enqueue(_) => receiving,
-        Deed::TakeBack(_) => receiving,
         Deed::ClearAll => with_reader(receiving, false, false),
-        Deed::ResetAll => receiving,
+        Deed::Leave | Deed::Enqueue(_) | Deed::TakeBack(_) | Deed::ResetAll => receiving,
     }
 }
 
@@ -101,54 +115,51 @@ pub fn received(receiving: Receiving, receive: Receive) -> Receiving
 {
     match receive {
         Receive::LeaveRx => receiving,
-        Receive::PopRx => {
-            let mut after = receiving;
-            after.rx = state::popped(receiving.rx, 256);
-            after
-        }
+        Receive::PopRx => Receiving {
+            rx: state::popped(receiving.rx, 256),
+            ..receiving
+        },
         Receive::StopRx => with_reader(receiving, receiving.reader.belongs, false),
-        Receive::EmptyRx => {
-            let mut after = receiving;
-            after.rx.count = 0;
-            after.reader.storing = false;
-            after
-        }
-        Receive::ResetRx => {
-            let reader = Reader {
+        Receive::EmptyRx => Receiving {
+            rx: Ring {
+                count: 0,
+                ..receiving.rx
+            },
+            reader: Reader {
+                storing: false,
+                ..receiving.reader
+            },
+        },
+        Receive::ResetRx => Receiving {
+            rx: Ring {
+                count: 0,
+                ..receiving.rx
+            },
+            reader: Reader {
                 ear: Ear::Quiet,
                 belongs: false,
                 storing: false,
                 stored: false,
-            };
-            let mut after = receiving;
-            after.rx.count = 0;
-            after.reader = reader;
-            after
-        }
+            },
+        },
     }
 }
 
 fn drdy_after(control: Control, count: u16, ended: bool) -> bool
     ensures { result ≡ pick (eqb count 0) true (pick (ltb control.regs.rxfflvl count || ended) false control.drdy) }
 {
-    if count == 0 {
-        return true;
-    }
     let exceeded = control.regs.rxfflvl < count;
-    if exceeded | ended {
-        return false;
-    }
-    control.drdy
+    (count == 0) | control.drdy & !exceeded & !ended
 }
 
 // DRDY after an event that leaves `count` words in RX; `ended`: an END came of a command that stored a word.
 pub fn settled(control: Control, count: u16, ended: bool) -> Control
     ensures { result ≡ settled_of control count ended }
 {
-    let drdy = drdy_after(control, count, ended);
-    let mut after = control;
-    after.drdy = drdy;
-    after
+    Control {
+        drdy: drdy_after(control, count, ended),
+        ..control
+    }
 }
 
 // SPICTRL bit 0.
@@ -162,74 +173,48 @@ fn is_silent(control: Control) -> bool
 pub fn concluded(xmodem: bool, status: bool, control: Control, phase: Phase) -> Phase
     ensures { result ≡ concluded_of layouts xmodem status control phase }
 {
-    if status {
-        if is_silent(control) {
-            return Phase::Idle;
-        }
-        return Phase::Answering {
-            reply: Reply::Status(reading::status(control)),
-            crc: command::crc_start(xmodem),
-        };
+    if !status {
+        return phase;
     }
-    phase
+    if is_silent(control) {
+        return Phase::Idle;
+    }
+    Phase::Answering {
+        reply: Reply::Status(reading::status(control)),
+        crc: command::crc_start(xmodem),
+    }
 }
 
 fn awaits_command(phase: Phase) -> bool
     ensures { result ≡ awaits_command phase }
 {
-    match phase {
-        Phase::Idle => true,
-        Phase::Collecting {
-            command: _,
-            got: _,
-            crc: _,
-            mine: _,
-            released: _,
-            blocked: _,
-        } => false,
-        Phase::Answering { reply: _, crc: _ } => false,
-        Phase::Discarding => false,
-    }
+    matches!(phase, Phase::Idle)
 }
 
 fn is_collecting(phase: Phase) -> bool
     ensures { result ≡ is_collecting phase }
 {
-    match phase {
-        Phase::Idle => false,
-        Phase::Collecting {
-            command: _,
-            got: _,
-            crc: _,
-            mine: _,
-            released: _,
-            blocked: _,
-        } => true,
-        Phase::Answering { reply: _, crc: _ } => false,
-        Phase::Discarding => false,
-    }
+    matches!(phase, Phase::Collecting { .. })
 }
 
 // A frame's algorithm is the one in force at its command word (02 item 7).
 pub fn xmodem_after(bridge: Bridge, after: Phase) -> bool
     ensures { result ≡ xmodem_after bridge after }
 {
-    let frame = bridge.frame;
-    let before = frame.phase;
-    if is_collecting(after) & awaits_command(before) {
+    if is_collecting(after) & awaits_command(bridge.frame.phase) {
         return registers::is_xmodem(bridge.control.regs);
     }
-    frame.xmodem
+    bridge.frame.xmodem
 }
 
 // A host word marks the watchdog with the last reading.
 pub fn marked(clock: Clock) -> Clock
     ensures { result ≡ marked_of clock }
 {
-    let reading = clock.reading;
-    let mut after = clock;
-    after.mark = reading;
-    after
+    Clock {
+        mark: clock.reading,
+        ..clock
+    }
 }
 
 // The one place where a host's event changes the bridge.
@@ -237,24 +222,20 @@ pub fn performed(bridge: Bridge, clock: Clock, plan: Plan) -> Bridge
     requires { (SendFit bridge.sending) × (Doable (stored bridge.sending plan.store) plan.deed) × (RingFit rx_size bridge.receiving.rx) }
     ensures { result ≡ performed_of layouts bridge clock plan }
 {
-    let store = plan.store;
-    let deed = plan.deed;
-    let receive = plan.receive;
-    let phase = plan.phase;
-    let held = plan.held;
-    let sending = deeds::done(deeds::stored(bridge.sending, store), deed);
-    let receiving = received(cleared_away(bridge.receiving, deed), receive);
+    let sending = deeds::done(deeds::stored(bridge.sending, plan.store), plan.deed);
+    let receiving = received(cleared_away(bridge.receiving, plan.deed), plan.receive);
     let control = settled(plan.control, receiving.rx.count, false);
+    let held = plan.held;
     let frame = Frame {
-        phase: concluded(bridge.frame.xmodem, plan.status, control, phase),
-        held: held,
-        xmodem: xmodem_after(bridge, phase),
+        phase: concluded(bridge.frame.xmodem, plan.status, control, plan.phase),
+        held,
+        xmodem: xmodem_after(bridge, plan.phase),
     };
     Bridge {
-        control: control,
-        sending: sending,
-        receiving: receiving,
-        frame: frame,
-        clock: clock,
+        control,
+        sending,
+        receiving,
+        frame,
+        clock,
     }
 }

@@ -1,4 +1,5 @@
 -- Laws of the events in front of a list of records. Assumes nothing.
+use Rattle.std.specs.Prelude.{Option, None, Some}
 use mathlib.Core.Path.{◌≡◌, refl, sym, ◌∙◌, ap, subst}
 use mathlib.Core.Bool.{Bool, true, false, false≢true}
 use mathlib.Core.List.{List, [], ◌∷◌}
@@ -10,8 +11,6 @@ use Rattle.command.specs.Layouts.{layouts}
 use Rattle.state.specs.declared.Bridge.{Bridge}
 use Rattle.events.specs.declared.Event.{Event}
 use Rattle.script.specs.Script.{value_of, record_of}
-use Rattle.script.specs.declared.Record.{Record}
-use Rattle.script.specs.declared.Record.TheVariants.{Good, Bad}
 use Rattle.listing.specs.Records.{is_good, is_event}
 use Rattle.whole_night.specs.Night.{Told, events, wrong, before, events_in}
 use Rattle.playing.specs.Playing.{stopped, judged, played}
@@ -90,10 +89,10 @@ pub record Says (n : ℕ) (t : Told) : Type 0 where
   pub told : t ≡ events es
   pub many : length es ≡ n
 
-says_one : (n : ℕ) (t : Told) (r : Record) → is_good r ≡ true → Says n t → Says (suc n) (before r t)
+says_one : (n : ℕ) (t : Told) (r : Option Event) → is_good r ≡ true → Says n t → Says (suc n) (before r t)
 unfolding is_good before
-says_one n t (Good e) h v = record { es = e ∷ v.es; told = ap (before (Good e)) v.told; many = ap suc v.many }
-says_one n t Bad h v = absurd (false≢true h)
+says_one n t (Some e) h v = record { es = e ∷ v.es; told = ap (before (Some e)) v.told; many = ap suc v.many }
+says_one n t None h v = absurd (false≢true h)
 
 says_front : (n : ℕ) (records : List ℕ) → Says (ahead n records) (events_in (take (ahead n records * 3) records))
 unfolding ahead events_in
@@ -125,10 +124,10 @@ ahead_told records =
     record { es = v.es; told = v.told; few = omega (arith, v.many, f) }
 
 -- where there is none the next record is wrong or cut
-none_stops : {A : Type 0} (r : Record) (m : ℕ) (f : Event → A) (x : A) → pick (is_good r) (suc m) 0 ≡ 0 → judged r f x ≡ x
+none_stops : {A : Type 0} (r : Option Event) (m : ℕ) (f : Event → A) (x : A) → pick (is_good r) (suc m) 0 ≡ 0 → judged r f x ≡ x
 unfolding is_good pick judged
-none_stops (Good e) m f x h = absurd (omega arith)
-none_stops Bad m f x h = refl
+none_stops (Some e) m f x h = absurd (omega arith)
+none_stops None m f x h = refl
 
 pub ahead_none : (b : Bridge) (tx rx : List ℕ) (n : ℕ) (records : List ℕ) → 0 < length records → ahead (suc n) records ≡ 0
     → played layouts b tx rx records ≡ stopped b tx rx

@@ -1,4 +1,5 @@
 -- Laws of the printed text and of its place in the output. Assumes nothing.
+use Rattle.std.specs.Prelude.{Option, None, Some}
 use mathlib.Core.Path.{◌≡◌, refl, sym, ◌∙◌, ap, ap₂}
 use mathlib.Core.Bool.{Bool}
 use mathlib.Core.List.{List, [], ◌∷◌, ◌++◌}
@@ -16,8 +17,6 @@ use Rattle.events.specs.declared.Event.{Event}
 use Rattle.bridge.specs.Step.{step}
 use Rattle.script.specs.Script.{value_of, record_of, line_of}
 use Rattle.script.specs.declared.Line.{Line}
-use Rattle.script.specs.declared.Record.{Record}
-use Rattle.script.specs.declared.Record.TheVariants.{Good, Bad}
 use Rattle.playing.specs.Playing.{bytes_of, line_for, Played, stopped, after, judged, played, room, end, shown}
 use Rattle.playing.specs.Walk.{part_of, shown_at}
 
@@ -85,10 +84,10 @@ Fits n p = length p.printed ≤ n
 
 module _ (l : Layouts) where
   judged_fits : (rest : List ℕ) → ((b : Bridge) (tx rx : List ℕ) → Fits (room rest) (played l b tx rx rest)) → (b : Bridge) (tx rx : List ℕ) (kind value : ℕ)
-      (r : Record) → Fits (length rest / 3 * 17 + 28) (judged r (λ (e : Event). after (bytes_of (line_for kind value (step l b tx rx e).answer))
+      (r : Option Event) → Fits (length rest / 3 * 17 + 28) (judged r (λ (e : Event). after (bytes_of (line_for kind value (step l b tx rx e).answer))
       (played l (step l b tx rx e).answer.state (step l b tx rx e).tx (step l b tx rx e).rx rest)) (stopped b tx rx))
   unfolding judged
-  judged_fits rest ih b tx rx kind value (Good e) =
+  judged_fits rest ih b tx rx kind value (Some e) =
       let a = (step l b tx rx e).answer in
       let line : Line = line_for kind value a in
       let p : Played = played l a.state (step l b tx rx e).tx (step l b tx rx e).rx rest in
@@ -96,7 +95,7 @@ module _ (l : Layouts) where
       let f : length p.printed ≤ room rest = ih _ _ _ in
       let n = length-append (bytes_of line) p.printed in
       omega (arith, s.0, s.1, f, n)
-  judged_fits rest ih b tx rx kind value Bad = omega arith
+  judged_fits rest ih b tx rx kind value None = omega arith
 
   pub fits : (records : List ℕ) (b : Bridge) (tx rx : List ℕ) → Fits (room records) (played l b tx rx records)
   unfolding played

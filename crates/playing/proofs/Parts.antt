@@ -1,4 +1,5 @@
 -- Whole records played, and then the rest of the script, are the script played at once: the bench may read it in parts. Assumes nothing.
+use Rattle.std.specs.Prelude.{Option, None, Some}
 use mathlib.Core.Path.{◌≡◌, refl, sym, ◌∙◌, ap}
 use mathlib.Core.Bool.{Bool, true, false}
 use mathlib.Core.List.{List, [], ◌∷◌, ◌++◌, append_assoc}
@@ -11,8 +12,6 @@ use Rattle.state.specs.declared.Bridge.{Bridge}
 use Rattle.events.specs.declared.Event.{Event}
 use Rattle.bridge.specs.Step.{step}
 use Rattle.script.specs.Script.{value_of, record_of}
-use Rattle.script.specs.declared.Record.{Record}
-use Rattle.script.specs.declared.Record.TheVariants.{Good, Bad}
 use Rattle.playing.specs.Playing.{bytes_of, line_for, Played, stopped, after, judged, played, followed}
 
 after_pick : (text : List ℕ) (p q : Played) (t : Bool) → after text (pick t (after p.printed q) p) ≡ pick t (after (text ++ p.printed) q) (after text p)
@@ -27,21 +26,21 @@ module _ (l : Layouts) (rest : List ℕ) where
   unfolding followed
   after_followed text p = after_pick text p (played l p.bridge p.tx p.rx rest) p.on
 
-  abbrev record_then : Bridge → List ℕ → List ℕ → ℕ → ℕ → List ℕ → Record → Played
+  abbrev record_then : Bridge → List ℕ → List ℕ → ℕ → ℕ → List ℕ → Option Event → Played
   record_then b tx rx kind value records r =
       judged r (λ (e : Event). after (bytes_of (line_for kind value (step l b tx rx e).answer))
       (played l (step l b tx rx e).answer.state (step l b tx rx e).tx (step l b tx rx e).rx records)) (stopped b tx rx)
 
   by_record : (records : List ℕ) → ((b : Bridge) (tx rx : List ℕ) → played l b tx rx (records ++ rest) ≡ followed l (played l b tx rx records) rest)
-      → (b : Bridge) (tx rx : List ℕ) (kind value : ℕ) (r : Record)
+      → (b : Bridge) (tx rx : List ℕ) (kind value : ℕ) (r : Option Event)
       → record_then b tx rx kind value (records ++ rest) r ≡ followed l (record_then b tx rx kind value records r) rest
   unfolding judged followed pick
-  by_record records ih b tx rx kind value (Good e) =
+  by_record records ih b tx rx kind value (Some e) =
       let text : List ℕ = bytes_of (line_for kind value (step l b tx rx e).answer) in
       let o = step l b tx rx e in
       ap (λ (p : Played). after text p) (ih o.answer.state o.tx o.rx)
       ∙ after_followed text (played l o.answer.state o.tx o.rx records)
-  by_record records ih b tx rx kind value Bad = refl
+  by_record records ih b tx rx kind value None = refl
 
   pub joined : (records : List ℕ) (b : Bridge) (tx rx : List ℕ) → length records % 3 ≡ 0
       → played l b tx rx (records ++ rest) ≡ followed l (played l b tx rx records) rest

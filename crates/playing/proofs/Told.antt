@@ -1,5 +1,6 @@
 -- Events done in one call (02 item 6) are events played: the lines of their records, by the bytes of their results, are what is printed, and the
 -- state and the stores are those left. Assumes nothing.
+use Rattle.std.specs.Prelude.{Option, None, Some}
 use mathlib.Core.Path.{◌≡◌, refl, sym, ◌∙◌, ap, ap₂, subst}
 use mathlib.Core.Bool.{Bool, true, false}
 use mathlib.Core.List.{List, [], ◌∷◌, ◌++◌}
@@ -20,8 +21,6 @@ use Rattle.events.specs.declared.Event.{Event}
 use Rattle.bridge.specs.Step.{refused, step}
 use Rattle.bridge.specs.Runs.{Config, out_of, next, end_of}
 use Rattle.script.specs.Script.{value_of, record_of, line_of}
-use Rattle.script.specs.declared.Record.{Record}
-use Rattle.script.specs.declared.Record.TheVariants.{Good, Bad}
 use Rattle.listing.specs.Results.{bit_byte}
 use Rattle.whole_night.specs.Night.{Told, events, wrong, before, events_in, bytes_in, End, all_done, tested, judged as judged_by, night}
 use Rattle.whole_night.specs.Outcomes.{outcome_number}
@@ -58,7 +57,7 @@ module _ (rest : List ℕ) (kind value : ℕ) where
   with_line s = bytes_of (line_with kind value s) ++ lines_in rest (drop 4 s)
 
   says_event : (c : Config) (more : List ℕ) (e : Event) (t : Told) → Says (next layouts c e) (played_from (next layouts c e) rest) (lines_in rest) more t
-      → Says c (after (bytes_of (line_for kind value (out_of layouts c e).answer)) (played_from (next layouts c e) rest)) with_line more (before (Good e) t)
+      → Says c (after (bytes_of (line_for kind value (out_of layouts c e).answer)) (played_from (next layouts c e) rest)) with_line more (before (Some e) t)
   unfolding before end_of bytes_in
   says_event c more e (events es) h =
       let text : List ℕ = bytes_of (line_for kind value (out_of layouts c e).answer) in
@@ -67,7 +66,7 @@ module _ (rest : List ℕ) (kind value : ℕ) where
       (sym (line_back kind value (out_of layouts c e).answer))
   says_event c more e wrong h = tt
 
-  says_record : ((c : Config) (more : List ℕ) → Says c (played_from c rest) (lines_in rest) more (events_in rest)) → (c : Config) (more : List ℕ) (r : Record)
+  says_record : ((c : Config) (more : List ℕ) → Says c (played_from c rest) (lines_in rest) more (events_in rest)) → (c : Config) (more : List ℕ) (r : Option Event)
       → Says c
       (judged r (λ (e : Event). after (bytes_of (line_for kind value (step layouts c.bridge c.tx c.rx e).answer))
       (played layouts (step layouts c.bridge c.tx c.rx e).answer.state (step layouts c.bridge c.tx c.rx e).tx (step layouts c.bridge c.tx c.rx e).rx rest))
@@ -76,8 +75,8 @@ module _ (rest : List ℕ) (kind value : ℕ) where
       more
       (before r (events_in rest))
   unfolding judged before next out_of
-  says_record ih c more (Good e) = says_event c more e (events_in rest) (ih (next layouts c e) more)
-  says_record ih c more Bad = tt
+  says_record ih c more (Some e) = says_event c more e (events_in rest) (ih (next layouts c e) more)
+  says_record ih c more None = tt
 
 says : (records : List ℕ) (c : Config) (more : List ℕ) → Says c (played_from c records) (lines_in records) more (events_in records)
 unfolding played lines_in events_in end_of bytes_in
@@ -95,11 +94,11 @@ abbrev Many : ℕ → Told → Type 0
 Many n (events es) = length es * 3 ≡ n
 Many n wrong = Unit {0}
 
-one_more : (n : ℕ) (r : Record) (t : Told) → Many n t → Many (suc (suc (suc n))) (before r t)
+one_more : (n : ℕ) (r : Option Event) (t : Told) → Many n t → Many (suc (suc (suc n))) (before r t)
 unfolding before
-one_more n (Good e) (events es) h = omega (arith, h)
-one_more n (Good e) wrong h = tt
-one_more n Bad t h = tt
+one_more n (Some e) (events es) h = omega (arith, h)
+one_more n (Some e) wrong h = tt
+one_more n None t h = tt
 
 many : (records : List ℕ) → Many (length records) (events_in records)
 unfolding events_in
@@ -130,18 +129,18 @@ module _ (c : Config) (n : ℕ) (v : Refuses c n) where
     goes_on o = after (bytes_of (line_for kind value o.answer)) (played layouts o.answer.state o.tx o.rx rest)
 
     stays_event : (e : Event) (t : Told) → Stays (played_from c rest) (refused_lines n rest) t
-        → Stays (goes_on (step layouts c.bridge c.tx c.rx e)) (refused_line ++ refused_lines n rest) (before (Good e) t)
+        → Stays (goes_on (step layouts c.bridge c.tx c.rx e)) (refused_line ++ refused_lines n rest) (before (Some e) t)
     unfolding before
     stays_event e (events es) h =
         ap goes_on (v.all e) ∙ ap (λ (m : ℕ). after (bytes_of (line_of kind value m no_answer true)) (played_from c rest)) v.number ∙ ap (after refused_line) h
     stays_event e wrong h = tt
 
-    stays_record : Stays (played_from c rest) (refused_lines n rest) (events_in rest) → (r : Record)
+    stays_record : Stays (played_from c rest) (refused_lines n rest) (events_in rest) → (r : Option Event)
         → Stays (judged r (λ (e : Event). goes_on (step layouts c.bridge c.tx c.rx e)) (stopped c.bridge c.tx c.rx))
         (refused_line ++ refused_lines n rest) (before r (events_in rest))
     unfolding judged before
-    stays_record h (Good e) = stays_event e (events_in rest) h
-    stays_record h Bad = tt
+    stays_record h (Some e) = stays_event e (events_in rest) h
+    stays_record h None = tt
 
   stays : (records : List ℕ) → Stays (played_from c records) (refused_lines n records) (events_in records)
   unfolding played refused_lines events_in

@@ -1,5 +1,5 @@
 -- What the bench prints of a script, and what it leaves (01 The bench program). Assumes nothing.
-use Rattle.std.specs.Prelude.{Bool, true, false, List, [], ◌∷◌, ◌++◌, ℕ, ◌+◌, ◌*◌, ◌/◌, leb, length, take, drop, replicate}
+use Rattle.std.specs.Prelude.{Bool, true, false, List, [], ◌∷◌, ◌++◌, ℕ, ◌+◌, ◌*◌, ◌/◌, leb, length, take, drop, replicate, Option, None, Some}
 use Rattle.base.specs.Pick.{pick}
 use Rattle.command.specs.Layouts.{Layouts, layouts}
 use Rattle.state.specs.Notes.{note_number}
@@ -11,8 +11,6 @@ use Rattle.events.specs.declared.Event.{Event}
 use Rattle.bridge.specs.Step.{step}
 use Rattle.script.specs.Script.{is_head, value_of, record_of, line_of}
 use Rattle.script.specs.declared.Line.{Line}
-use Rattle.script.specs.declared.Record.{Record}
-use Rattle.script.specs.declared.Record.TheVariants.{Good, Bad}
 use Rattle.playing.specs.declared.Part.{Part}
 
 -- the longest line, and the length of the two that say what is wrong
@@ -62,9 +60,9 @@ abbrev pub after : List ℕ → Played → Played
 after text p = record { bridge = p.bridge; tx = p.tx; rx = p.rx; printed = text ++ p.printed; on = p.on }
 
 -- by what a record is: an event, or none
-unfoldable pub judged : {A : Type 0} → Record → (Event → A) → A → A
-judged (Good e) event wrong = event e
-judged Bad event wrong = wrong
+unfoldable pub judged : {A : Type 0} → Option Event → (Event → A) → A → A
+judged (Some e) event wrong = event e
+judged None event wrong = wrong
 
 -- The records of a script, each judged when it is reached: an event prints its line, and the next begins from the state and the stores that
 -- it left. One or two bytes at the end are a cut record.

@@ -1,4 +1,5 @@
 -- One word of a run, the first or a later one: `turn` gives the record that the run leaves. Assumes nothing.
+use Rattle.std.specs.Prelude.{Some}
 use mathlib.Core.Path.{◌≡◌, refl, sym, ◌∙◌, ap}
 use mathlib.Core.Bool.{Bool, true, false, not, ◌&&◌, ◌||◌}
 use mathlib.Core.List.{List}
@@ -24,7 +25,6 @@ use Rattle.state.specs.declared.Note.{Note}
 use Rattle.state.specs.declared.Note.TheVariants.{Done}
 use Rattle.state.specs.declared.Phase.{Phase}
 use Rattle.state.specs.declared.Phase.TheVariants.{Idle, Collecting, Answering, Discarding}
-use Rattle.state.specs.declared.Store.TheVariants.{Put}
 use Rattle.plan.specs.Plan.{no_answer, plain, cleared_away, received, settled, concluded, awaits_command, is_collecting, marked, performed}
 use Rattle.plan.specs.declared.Plan.{Plan}
 use Rattle.plan.specs.declared.Receive.TheVariants.{LeaveRx}
@@ -106,7 +106,7 @@ plan b f st released w = record {
   phase = phase_at f (poured_on st released w) released;
   held = b.frame.held;
   control = b.control;
-  store = Put w;
+  store = Some w;
   deed = Leave;
   receive = LeaveRx;
   note = Done;

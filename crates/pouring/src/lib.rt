@@ -55,31 +55,18 @@ fn bed_in(command: Command, released: bool, blocked: bool) -> Bed
     match command {
         Command::Filler => no_bed(),
         Command::Malformed => no_bed(),
-        Command::Forward {
-            crc,
-            words,
-            ends: _,
-            reads: _,
-        } => {
+        Command::Forward { crc, words, .. } => {
             let free = !blocked;
             Bed {
                 flows: free,
-                words: words,
+                words,
                 named: crc,
-                released: released,
+                released,
             }
         }
-        Command::DataRead { crc: _, words: _ } => no_bed(),
-        Command::RegisterWrite {
-            crc: _,
-            address: _,
-            count: _,
-        } => no_bed(),
-        Command::RegisterRead {
-            crc: _,
-            address: _,
-            count: _,
-        } => no_bed(),
+        Command::DataRead { .. } => no_bed(),
+        Command::RegisterWrite { .. } => no_bed(),
+        Command::RegisterRead { .. } => no_bed(),
         Command::SoftReset => no_bed(),
     }
 }
@@ -91,13 +78,11 @@ fn bed_of(phase: Phase) -> Bed
         Phase::Idle => no_bed(),
         Phase::Collecting {
             command,
-            got: _,
-            crc: _,
-            mine: _,
             released,
             blocked,
+            ..
         } => bed_in(command, released, blocked),
-        Phase::Answering { reply: _, crc: _ } => no_bed(),
+        Phase::Answering { .. } => no_bed(),
         Phase::Discarding => no_bed(),
     }
 }
@@ -110,32 +95,25 @@ fn stream_of(phase: Phase, count: u16) -> Stream
             got: 0,
             crc: 0,
             mine: 0,
-            count: count,
+            count,
         },
-        Phase::Collecting {
-            command: _,
+        Phase::Collecting { got, crc, mine, .. } => Stream {
             got,
             crc,
             mine,
-            released: _,
-            blocked: _,
-        } => Stream {
-            got: got,
-            crc: crc,
-            mine: mine,
-            count: count,
+            count,
         },
-        Phase::Answering { reply: _, crc: _ } => Stream {
+        Phase::Answering { .. } => Stream {
             got: 0,
             crc: 0,
             mine: 0,
-            count: count,
+            count,
         },
         Phase::Discarding => Stream {
             got: 0,
             crc: 0,
             mine: 0,
-            count: count,
+            count,
         },
     }
 }
@@ -196,7 +174,7 @@ fn flow(
         let next = k + 1;
         let at = k * 3;
         if records[at] != 1 {
-            return Stretch { k: k, stream: s };
+            return Stretch { k, stream: s };
         }
         let go = pours(s, bed, bridge.control.regs.txfflvl);
         if go {
@@ -210,17 +188,17 @@ fn flow(
             tx[cell] = word;
             listing::put_quiet(results, k, true);
             s = Stream {
-                got: got,
-                crc: crc,
-                mine: mine,
-                count: count,
+                got,
+                crc,
+                mine,
+                count,
             };
             k = next;
         } else {
-            return Stretch { k: k, stream: s };
+            return Stretch { k, stream: s };
         }
     }
-    Stretch { k: k, stream: s }
+    Stretch { k, stream: s }
 }
 
 // A filler outside a frame, and every word of a frame that is discarded, leave the frame as it is.
@@ -229,15 +207,8 @@ fn stays(phase: Phase, word: u16) -> bool
 {
     match phase {
         Phase::Idle => word == 0xFFFF,
-        Phase::Collecting {
-            command: _,
-            got: _,
-            crc: _,
-            mine: _,
-            released: _,
-            blocked: _,
-        } => false,
-        Phase::Answering { reply: _, crc: _ } => false,
+        Phase::Collecting { .. } => false,
+        Phase::Answering { .. } => false,
         Phase::Discarding => true,
     }
 }
@@ -247,15 +218,8 @@ fn stay_note(phase: Phase) -> Note
 {
     match phase {
         Phase::Idle => Note::Done,
-        Phase::Collecting {
-            command: _,
-            got: _,
-            crc: _,
-            mine: _,
-            released: _,
-            blocked: _,
-        } => Note::Done,
-        Phase::Answering { reply: _, crc: _ } => Note::Done,
+        Phase::Collecting { .. } => Note::Done,
+        Phase::Answering { .. } => Note::Done,
         Phase::Discarding => Note::Discarded,
     }
 }
@@ -281,10 +245,7 @@ fn still(
         let frame = bridge.frame;
         let phase = frame.phase;
         if records[at] != 1 {
-            return Stretch {
-                k: k,
-                stream: start,
-            };
+            return Stretch { k, stream: start };
         }
         let word = script::value(records[at + 1], records[at + 2]);
         let note = stay_note(phase);
@@ -292,16 +253,10 @@ fn still(
             listing::put(results, k, note, 0xFFFF, true);
             k = next;
         } else {
-            return Stretch {
-                k: k,
-                stream: start,
-            };
+            return Stretch { k, stream: start };
         }
     }
-    Stretch {
-        k: k,
-        stream: start,
-    }
+    Stretch { k, stream: start }
 }
 
 // The run of either kind that begins with record `from`; where its word is of neither, none is done.
@@ -336,23 +291,18 @@ fn poured_phase(phase: Phase, s: Stream) -> Phase
         Phase::Idle => Phase::Idle,
         Phase::Collecting {
             command,
-            got: _,
-            crc: _,
-            mine: _,
             released,
             blocked,
+            ..
         } => Phase::Collecting {
-            command: command,
+            command,
             got: s.got,
             crc: s.crc,
             mine: s.mine,
-            released: released,
-            blocked: blocked,
+            released,
+            blocked,
         },
-        Phase::Answering { reply, crc } => Phase::Answering {
-            reply: reply,
-            crc: crc,
-        },
+        Phase::Answering { reply, crc } => Phase::Answering { reply, crc },
         Phase::Discarding => Phase::Discarding,
     }
 }
@@ -369,8 +319,8 @@ pub fn poured(bridge: Bridge, s: Stream) -> Bridge
     let phase = poured_phase(was, s);
     let held = before.held;
     let frame = Frame {
-        phase: phase,
-        held: held,
+        phase,
+        held,
         xmodem: before.xmodem,
     };
     let mut after = bridge;

@@ -4,7 +4,7 @@
 
 ghost use Rattle.std.specs.Prelude.{◌≡◌, ◌≤◌, ◌<◌};
 ghost use Rattle.state.specs.Facts.{QueueFit};
-ghost use Rattle.state.specs.Queue.{place_at, new_place, places_of, in_use, lacks as lacks_of, speaking, under_way, moved as moved_of, freed as freed_one, freed_of as freed_part, claimed as claimed_of, returned as returned_of};
+ghost use Rattle.state.specs.Queue.{place_at, new_place, places_of, in_use, lacks as lacks_of, youngest_begun, speaking, under_way, freed as freed_one, freed_of as freed_part, oldest_unread, returned as returned_of};
 
 use state::{Place, Queue, Returned};
 
@@ -13,15 +13,12 @@ pub fn new_place(words: u16, ends: u16, store: bool) -> Place
     ensures { result ≡ new_place words ends store }
 {
     Place {
-        words: words,
-        ends: ends,
-        store: store,
-        compare: false,
-        damaged: false,
-        sent: false,
-        read: false,
+        words,
+        ends,
+        store,
         crc_sent: 0xFFFF,
         crc_read: 0xFFFF,
+        ..Place::NONE
     }
 }
 
@@ -30,33 +27,38 @@ pub fn place_at(queue: Queue, k: u16) -> Place
     ensures { result ≡ place_at queue k }
 {
     if k < 8 {
-        return queue.places[k as usize];
+        queue.places[k as usize]
+    } else {
+        Place::NONE
     }
-    Place::NONE
+}
+
+// The youngest command that has begun.
+fn last_begun(queue: Queue) -> Option<Place>
+    ensures { result ≡ youngest_begun queue }
+{
+    let last = queue.begun.checked_sub(1)?;
+    Some(place_at(queue, last))
 }
 
 // A command is under way: begun, and its words or its ENDs not yet sent.
 pub fn is_under_way(queue: Queue) -> bool
     ensures { result ≡ under_way queue }
 {
-    let begun = queue.begun;
-    if 0 < begun {
-        let last = place_at(queue, begun - 1);
-        return !last.sent | (0 < last.ends);
-    }
-    false
+    let Some(last) = last_begun(queue) else {
+        return false;
+    };
+    !last.sent | (0 < last.ends)
 }
 
 // The command under way has words that are not yet sent.
 pub fn is_speaking(queue: Queue) -> bool
     ensures { result ≡ speaking queue }
 {
-    let begun = queue.begun;
-    if 0 < begun {
-        let last = place_at(queue, begun - 1);
-        return (0 < last.words) & !last.sent;
-    }
-    false
+    let Some(last) = last_begun(queue) else {
+        return false;
+    };
+    (0 < last.words) & !last.sent
 }
 
 // A command with words and extra ENDs takes two places.
@@ -71,80 +73,42 @@ pub fn places_of(place: Place) -> u16
 pub fn in_use(queue: Queue) -> u16
     ensures { (result ≡ in_use queue) × (result ≤ 16) }
 {
-    let used = queue.used;
-    let mut sum: u16 = 0;
-    let mut i: u16 = 0;
-    while i < used {
-        if 8 <= i {
-            return sum;
-        }
-        let place = queue.places[i as usize];
-        sum = sum + places_of(place);
-        i = i + 1;
-    }
-    sum
+    let commands = queue.places.iter().take(queue.used as usize);
+    commands.map(|place| places_of(*place)).sum()
 }
 
 // Fewer places are free than the command needs.
 pub fn lacks(queue: Queue, place: Place) -> bool
     ensures { result ≡ lacks_of queue place }
 {
-    let used = in_use(queue);
-    let needed = places_of(place);
-    8 < used + needed
+    8 < in_use(queue) + places_of(place)
 }
 
 // "the oldest place with words that has begun sending and is not yet read"
-pub fn claimed(queue: Queue) -> u16
+pub fn claimed(queue: Queue) -> Option<u16>
     requires { QueueFit queue }
-    ensures { result ≡ claimed_of queue }
+    ensures { result ≡ oldest_unread queue }
 {
-    let begun = queue.begun;
-    let mut i: u16 = 0;
-    while i < begun {
-        let place = place_at(queue, i);
-        let speaks = 0 < place.words;
-        let unread = !place.read;
-        if speaks & unread {
-            return i;
+    for i in 0..queue.begun {
+        let place = queue.places[i as usize];
+        if (0 < place.words) & !place.read {
+            return Some(i);
         }
-        i = i + 1;
     }
-    i
+    None
 }
 
-// What stands at k once the place at i is freed.
-fn moved(queue: Queue, i: u16, k: u16) -> Place
-    requires { k < 8 }
-    ensures { result ≡ moved_of queue.places i k }
-{
-    if k < i {
-        return place_at(queue, k);
-    }
-    place_at(queue, k + 1)
-}
-
+// The place at i freed: the younger commands move up by one.
 fn freed(queue: Queue, i: u16) -> Queue
     requires { (QueueFit queue) × (i < queue.begun) }
     ensures { result ≡ freed_one queue i }
 {
-    let used = queue.used - 1;
-    let begun = queue.begun - 1;
-    let places = [
-        moved(queue, i, 0),
-        moved(queue, i, 1),
-        moved(queue, i, 2),
-        moved(queue, i, 3),
-        moved(queue, i, 4),
-        moved(queue, i, 5),
-        moved(queue, i, 6),
-        moved(queue, i, 7),
-    ];
-    Queue {
-        places: places,
-        used: used,
-        begun: begun,
-    }
+    let mut left = queue;
+    left.places.copy_within(i as usize + 1.., i as usize);
+    left.places[7] = Place::NONE;
+    left.used -= 1;
+    left.begun -= 1;
+    left
 }
 
 // The words' place is freed with its command, or alone: ENDs that still go out keep theirs.
@@ -165,14 +129,11 @@ pub fn give_back(queue: Queue, i: u16, place: Place) -> Returned
     requires { (QueueFit queue) × (i < queue.begun) }
     ensures { result ≡ returned_of queue i place }
 {
-    let silent = place.words == 0;
-    let answered = place.read | silent;
-    if place.sent & answered {
-        let whole = !place.damaged;
+    if place.sent & (place.read | (place.words == 0)) {
         let unlike = place.crc_sent != place.crc_read;
         return Returned {
             queue: freed_of(queue, i, place),
-            differs: place.compare & whole & unlike,
+            differs: place.compare & !place.damaged & unlike,
         };
     }
     let mut kept = queue;

@@ -1,8 +1,9 @@
 -- A tick that moves only the bit under way, or finds the line at rest: the definitions give the short way's record. Assumes nothing.
+use Rattle.std.specs.Prelude.{None}
 use mathlib.Core.Path.{◌≡◌, refl, sym}
 use mathlib.Core.Bool.{Bool, true, false, ◌&&◌}
 use mathlib.Core.List.{List}
-use Prim.Native.Nat.{ℕ, ◌+◌, ◌-◌, ◌≤◌, ◌<◌}
+use Prim.Native.Nat.{ℕ, ◌+◌, ◌≤◌, ◌<◌}
 use native.Mathlib.Omega.{arith}
 use lib.Dec.{ltb, leb}
 use borrow.Author.Tests.{ltb-true, leb-true, eqb-true, lt-leb, ltb-false}
@@ -26,7 +27,6 @@ use Rattle.state.specs.declared.Receiving.{Receiving}
 use Rattle.state.specs.declared.Returned.{Returned}
 use Rattle.state.specs.declared.Sender.{Sender}
 use Rattle.state.specs.declared.Sending.{Sending}
-use Rattle.state.specs.declared.Store.TheVariants.{Keep}
 use Rattle.next.specs.Next.{may_start, choose, bit_sent}
 use Rattle.sender.specs.Sender.{sender_after, advanced, finished, sent_by, tick_sender}
 use Rattle.next.specs.declared.Next.{Next}
@@ -38,16 +38,12 @@ use Rattle.reader.specs.Reader.{with_ear, taken_by, tick_reader}
 use Rattle.plan.specs.Plan.{no_answer, settled}
 use Rattle.ticks.specs.Ticks.{watched, starved_flags, flags_sent, phase_after, control_ticked, tick_note, tick_ends, tick_hears, ticked}
 use Rattle.events.specs.Events.{reacted}
-use Rattle.quick.specs.Passing.{is_nothing, in_piece, rests, passes_by, sin_of, passes}
+use Rattle.quick.specs.Passing.{is_nothing, in_piece, rests, passes_by, passes}
 use Rattle.events.specs.Turn.{out, turned, turn}
 use Rattle.events.specs.declared.Answer.{Answer}
 use Rattle.ticks.specs.declared.Did.{Did}
 use Rattle.events.specs.declared.Event.{Event}
-use Rattle.events.specs.declared.Event.TheVariants.{Power, Word, Release, Tick, Clock as ClockReading}
-
--- an arm knows the event
-pub to_passes : (b : Bridge) (e v : Event) (x : Bool) → v ≡ e → x ≡ passes b e → x ≡ passes b v
-to_passes b e v x h k = rw h k
+use Rattle.events.specs.declared.Event.TheVariants.{Tick}
 
 pub to_heard : (b : Bridge) (h k : Heard) (x : Bool) → h ≡ k → x ≡ passes_by b h.found → x ≡ passes_by b k.found
 to_heard b h k x e f = rw (← e) f
@@ -125,8 +121,8 @@ short b sin n w = record {
   sdo = no_answer;
   sout = bit_sent n b.sending.sender w;
   note = Done;
-  tx = Keep;
-  rx = Keep;
+  tx = None;
+  rx = None;
 }
 
 pub ticked_short : (b : Bridge) (sin : Bool) (w : ℕ) (n : Next) → tick_sender b.sending (may_start b.control) w ≡ plain n b.sending w
@@ -168,9 +164,9 @@ bit_by true s w = refl
 bit_by false s w = refl
 
 -- the short way's answer, by the parts that its functions told
-pub to_passed : (b : Bridge) (e : Event) (sin : Bool) (heard : Heard) (receiving : Receiving) (sender : Sender) (sout : Bool)
+pub to_passed : (b : Bridge) (sin : Bool) (heard : Heard) (receiving : Receiving) (sender : Sender) (sout : Bool)
     (control : Control) (clock : Clock) (tx rx : List ℕ)
-    → passes b e ≡ true → sin ≡ sin_of e → heard ≡ hear b.receiving.reader.ear sin → receiving ≡ with_ear b.receiving heard.ear
+    → passes b (Tick sin) ≡ true → heard ≡ hear b.receiving.reader.ear sin → receiving ≡ with_ear b.receiving heard.ear
     → sender ≡ pick (in_piece b.sending.sender) (sender_after GoOn b.sending 0) (sender_after Stay b.sending 0)
     → sout ≡ pick (in_piece b.sending.sender) (bit_sent GoOn b.sending.sender 0) (bit_sent Stay b.sending.sender 0)
     → control ≡ settled b.control b.receiving.rx.count false → clock ≡ watched b.clock false sin
@@ -189,15 +185,12 @@ pub to_passed : (b : Bridge) (e : Event) (sin : Bool) (heard : Heard) (receiving
     })
     tx
     rx
-    ≡ turn layouts b tx rx e
+    ≡ turn layouts b tx rx (Tick sin)
 unfolding passes turn turned reacted written
-to_passed b (Power good layout) sin heard receiving sender sout control clock tx rx p i h r s o c k = cc
-to_passed b (Word word) sin heard receiving sender sout control clock tx rx p i h r s o c k = cc
-to_passed b Release sin heard receiving sender sout control clock tx rx p i h r s o c k = cc
-to_passed b (Tick bit) sin heard receiving sender sout control clock tx rx p i h r s o c k =
-    rw (tick_short b bit _ p, r, h, s, o, c, k, i, sender_by, bit_by) refl
-to_passed b (ClockReading reading) sin heard receiving sender sout control clock tx rx p i h r s o c k = cc
+to_passed b sin heard receiving sender sout control clock tx rx p h r s o c k =
+    rw (tick_short b sin _ p, r, h, s, o, c, k, sender_by, bit_by) refl
 
-pub to_short : (b : Bridge) (e : Event) (a : Answer) (tx rx : List ℕ) → ((t u : List ℕ) → out a t u ≡ turn layouts b t u e)
-    → out a tx rx ≡ turn layouts b tx rx e
-to_short b e a tx rx f = f tx rx
+-- an arm knows the event
+pub to_short : (b : Bridge) (e v : Event) (a : Answer) (tx rx : List ℕ) → v ≡ e → ((t u : List ℕ) → out a t u ≡ turn layouts b t u e)
+    → out a tx rx ≡ turn layouts b tx rx v
+to_short b e v a tx rx h f = rw h (f tx rx)

@@ -1,6 +1,6 @@
 -- Which ticks `quick::turn` answers by a short way. No rule: what such a tick does is what `turn` says of it; proofs/Between.antt shows that
 -- the short way gives that.
-use Rattle.std.specs.Prelude.{Bool, true, false, ◌&&◌, ℕ, ◌+◌, ltb}
+use Rattle.std.specs.Prelude.{Bool, true, false, ◌&&◌, ◌+◌, ltb}
 use Rattle.base.specs.Pick.{pick}
 use Rattle.line.specs.Format.{piece_length}
 use Rattle.line.specs.Reader.{hear}

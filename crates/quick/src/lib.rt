@@ -10,7 +10,8 @@ ghost use Rattle.next.specs.Next.{bit_sent};
 ghost use Rattle.sender.specs.Sender.{sender_after};
 ghost use Rattle.next.specs.declared.Next.TheVariants.{GoOn, Stay};
 ghost use Rattle.state.specs.Facts.{QueueFit, HostFit};
-ghost use Rattle.quick.specs.Passing.{is_nothing, in_piece, rests as rests_of, passes_by, sin_of, passes as passes_of};
+ghost use Rattle.events.specs.declared.Event.TheVariants.{Tick};
+ghost use Rattle.quick.specs.Passing.{is_nothing, in_piece, rests as rests_of, passes_by, passes as passes_of};
 ghost use Rattle.events.specs.Turn.{out, Ready, turn as turn_of};
 
 use events::{Answer, Event};
@@ -21,14 +22,7 @@ use ticks::watched;
 pub fn is_nothing(found: Found) -> bool
     ensures { result ≡ is_nothing found }
 {
-    match found {
-        Found::Nothing => true,
-        Found::Start => false,
-        Found::Word(_) => false,
-        Found::End => false,
-        Found::CheckError(_) => false,
-        Found::Over => false,
-    }
+    matches!(found, Found::Nothing)
 }
 
 // More than one bit of the piece is left: with its last a place may be sent.
@@ -36,8 +30,7 @@ fn in_piece(sender: Sender) -> bool
     requires { sender.gone ≤ 18 }
     ensures { result ≡ in_piece sender }
 {
-    let piece = sender.piece;
-    sender.gone + 1 < line::piece_length(piece)
+    sender.gone + 1 < line::piece_length(sender.piece)
 }
 
 // Nothing to send, and nothing that waits may begin.
@@ -60,46 +53,17 @@ fn passes_by(bridge: Bridge, found: Found) -> bool
     requires { HostFit bridge }
     ensures { result ≡ passes_by bridge found }
 {
-    if is_nothing(found) {
-        if in_piece(bridge.sending.sender) {
-            return true;
-        }
-        let may = next::may_start(bridge.control);
-        return rests(bridge.sending, may);
-    }
-    false
+    is_nothing(found)
+        && (in_piece(bridge.sending.sender)
+            || rests(bridge.sending, next::may_start(bridge.control)))
 }
 
-fn passes(bridge: Bridge, event: Event) -> bool
+fn passes(bridge: Bridge, sin: bool) -> bool
     requires { HostFit bridge }
-    ensures { result ≡ passes_of bridge event }
+    ensures { result ≡ passes_of bridge (Tick sin) }
 {
-    match event {
-        Event::Power { good: _, layout: _ } => false,
-        Event::Word(_) => false,
-        Event::Release => false,
-        Event::Tick(sin) => {
-            let reader = bridge.receiving.reader;
-            let before = reader.ear;
-            let heard = line::hear(before, sin);
-            let found = heard.found;
-            passes_by(bridge, found)
-        }
-        Event::Clock(_) => false,
-    }
-}
-
-// Only a tick has one.
-fn sin_of(event: Event) -> bool
-    ensures { result ≡ sin_of event }
-{
-    match event {
-        Event::Power { good: _, layout: _ } => false,
-        Event::Word(_) => false,
-        Event::Release => false,
-        Event::Tick(sin) => sin,
-        Event::Clock(_) => false,
-    }
+    let heard = line::hear(bridge.receiving.reader.ear, sin);
+    passes_by(bridge, heard.found)
 }
 
 // A sender at rest holds no piece, whatever it sent last.
@@ -109,9 +73,10 @@ fn sender_after(sending: Sending) -> Sender
 {
     let sender = sending.sender;
     if in_piece(sender) {
-        let mut after = sender;
-        after.gone = sender.gone + 1;
-        return after;
+        return Sender {
+            gone: sender.gone + 1,
+            ..sender
+        };
     }
     Sender {
         piece: Piece::Pause,
@@ -126,38 +91,35 @@ fn bit_sent(sender: Sender) -> bool
     ensures { result ≡ pick (in_piece sender) (bit_sent GoOn sender 0) (bit_sent Stay sender 0) }
 {
     if in_piece(sender) {
-        let piece = sender.piece;
-        return line::piece_bit(piece, sender.gone);
+        return line::piece_bit(sender.piece, sender.gone);
     }
     true
 }
 
-fn passed(bridge: Bridge, event: Event) -> Answer
+fn passed(bridge: Bridge, sin: bool) -> Answer
     requires host_fit { HostFit bridge }
-    requires event_value { passes_of bridge event ≡ true }
-    ensures { (tx rx : List ℕ) → out result tx rx ≡ turn_of layouts bridge tx rx event }
+    requires event_value { passes_of bridge (Tick sin) ≡ true }
+    ensures { (tx rx : List ℕ) → out result tx rx ≡ turn_of layouts bridge tx rx (Tick sin) }
 {
-    let sin = sin_of(event);
-    let reader = bridge.receiving.reader;
-    let before = reader.ear;
-    let heard = line::hear(before, sin);
-    let ear = heard.ear;
-    let receiving = reader::with_ear(bridge.receiving, ear);
-    let mut sending = bridge.sending;
-    let sender = sender_after(sending);
-    let sout = bit_sent(sending.sender);
-    sending.sender = sender;
+    let heard = line::hear(bridge.receiving.reader.ear, sin);
+    let receiving = reader::with_ear(bridge.receiving, heard.ear);
+    let sender = sender_after(bridge.sending);
+    let sout = bit_sent(bridge.sending.sender);
     let control = plan::settled(bridge.control, bridge.receiving.rx.count, false);
     let clock = watched(bridge.clock, false, sin);
-    let mut after = bridge;
-    after.control = control;
-    after.sending = sending;
-    after.receiving = receiving;
-    after.clock = clock;
     Answer {
-        state: after,
+        state: Bridge {
+            control,
+            sending: Sending {
+                sender,
+                ..bridge.sending
+            },
+            receiving,
+            clock,
+            ..bridge
+        },
         sdo: 0xFFFF,
-        sout: sout,
+        sout,
         note: Note::Done,
     }
 }
@@ -167,8 +129,10 @@ pub fn turn(bridge: Bridge, tx: &mut [u16], rx: &mut [u16], event: Event) -> Ans
     requires { Ready bridge tx.old rx.old }
     ensures { out result tx.new rx.new ≡ turn_of layouts bridge tx.old rx.old event }
 {
-    if passes(bridge, event) {
-        return passed(bridge, event);
+    if let Event::Tick(sin) = event
+        && passes(bridge, sin)
+    {
+        return passed(bridge, sin);
     }
     events::turn(bridge, tx, rx, event)
 }

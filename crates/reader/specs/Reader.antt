@@ -1,5 +1,5 @@
 -- What a tick hears (01 The line, "The reader (SIN)"; 02 item 4; the bits are read by `hear` of `line`). Assumes nothing.
-use Rattle.std.specs.Prelude.{Bool, true, false, not, ◌&&◌, ℕ, ltb}
+use Rattle.std.specs.Prelude.{Bool, true, false, not, ◌&&◌, ℕ, ltb, Option, None, Some}
 use Rattle.base.specs.Pick.{pick}
 use Rattle.crc16.specs.Crc.{crc_word}
 use Rattle.line.specs.Reader.{hear}
@@ -17,8 +17,6 @@ use Rattle.state.specs.declared.Queue.{Queue}
 use Rattle.state.specs.declared.Returned.{Returned}
 use Rattle.state.specs.declared.Reader.{Reader}
 use Rattle.state.specs.declared.Receiving.{Receiving}
-use Rattle.state.specs.declared.Store.{Store}
-use Rattle.state.specs.declared.Store.TheVariants.{Keep, Put}
 use Rattle.reader.specs.declared.Taken.{Taken}
 
 abbrev pub with_ear : Receiving → Ear → Receiving
@@ -105,7 +103,7 @@ word_taken r q f e w =
       };
       queue = word_read r.reader.belongs q w;
       flags = f;
-      store = Put w;
+      store = Some w;
       full = false;
       ended = false;
     })
@@ -116,7 +114,7 @@ word_taken r q f e w =
       };
       queue = word_read r.reader.belongs q w;
       flags = raised f RxOvf;
-      store = Keep;
+      store = None;
       full = true;
       ended = false;
     }))
@@ -124,14 +122,14 @@ word_taken r q f e w =
       receiving = with_ear r e;
       queue = word_read r.reader.belongs q w;
       flags = f;
-      store = Keep;
+      store = None;
       full = false;
       ended = false;
     })
 
 -- nothing stored, nothing dropped
 abbrev pub taken : Receiving → Queue → Flags → Bool → Taken
-taken r q f ended = record { receiving = r; queue = q; flags = f; store = Keep; full = false; ended = ended }
+taken r q f ended = record { receiving = r; queue = q; flags = f; store = None; full = false; ended = ended }
 
 unfoldable pub at_end : Receiving → Ear → Receiving
 at_end r e = record { rx = r.rx; reader = record { ear = e; belongs = false; storing = false; stored = false } }

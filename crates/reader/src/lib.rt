@@ -2,13 +2,15 @@
 
 #![tactic(auto)]
 
-ghost use Rattle.std.specs.Prelude.{◌≡◌, true, ◌≤◌, ◌<◌};
+ghost use Rattle.std.specs.Prelude.{◌≡◌, true, ◌≤◌, ◌<◌, None};
+ghost use Rattle.base.specs.Pick.{pick};
+ghost use Rattle.state.specs.Queue.{oldest_unread};
 ghost use Rattle.state.specs.Facts.{QueueFit, RingFit};
 ghost use Rattle.reader.specs.Reader.{with_ear, began as began_of, word_read, error_read, end_read, word_taken, taken, at_end, ended as ended_of, taken_by, tick_reader};
 
 use line::{Ear, Found};
 use registers::{Flag, Flags};
-use state::{Queue, Reader, Receiving, Returned, Store};
+use state::{Queue, Reader, Receiving, Returned};
 
 // `full`: note 14. `ended`: END came of a command that stored a word.
 #[derive(Clone, Copy)]
@@ -16,7 +18,7 @@ pub struct Taken {
     pub receiving: Receiving,
     pub queue: Queue,
     pub flags: Flags,
-    pub store: Store,
+    pub store: Option<u16>,
     pub full: bool,
     pub ended: bool,
 }
@@ -24,18 +26,12 @@ pub struct Taken {
 pub fn with_ear(receiving: Receiving, ear: Ear) -> Receiving
     ensures { result ≡ with_ear receiving ear }
 {
-    let rx = receiving.rx;
-    let belongs = receiving.reader.belongs;
-    let storing = receiving.reader.storing;
-    let stored = receiving.reader.stored;
     Receiving {
-        rx: rx,
         reader: Reader {
-            ear: ear,
-            belongs: belongs,
-            storing: storing,
-            stored: stored,
+            ear,
+            ..receiving.reader
         },
+        ..receiving
     }
 }
 
@@ -43,15 +39,14 @@ pub fn with_ear(receiving: Receiving, ear: Ear) -> Receiving
 fn unclaimed(receiving: Receiving, ear: Ear) -> Receiving
     ensures { result ≡ at_end receiving ear }
 {
-    let rx = receiving.rx;
     Receiving {
-        rx: rx,
         reader: Reader {
-            ear: ear,
+            ear,
             belongs: false,
             storing: false,
             stored: false,
         },
+        ..receiving
     }
 }
 
@@ -61,16 +56,20 @@ fn began(receiving: Receiving, queue: Queue, flags: Flags, ear: Ear) -> Receivin
     ensures { result ≡ began_of receiving queue flags ear }
 {
     let mut started = unclaimed(receiving, ear);
-    let i = queue::claimed(queue);
-    if i < queue.begun {
-        let asked = queue.places[i as usize].store;
+    if let Some(i) = queue::claimed(queue) {
         let up = flags.rxffovf | flags.rxffuvf;
-        let storing = asked & !up;
         started.reader.belongs = true;
-        started.reader.storing = storing;
-        return started;
+        started.reader.storing = queue.places[i as usize].store & !up;
     }
     started
+}
+
+// The place of the command being read, where it belongs to one.
+fn own_place(belongs: bool, queue: Queue) -> Option<u16>
+    requires { QueueFit queue }
+    ensures { result ≡ pick belongs (oldest_unread queue) None }
+{
+    if belongs { queue::claimed(queue) } else { None }
 }
 
 // A word goes into the CRC of what its place reads back.
@@ -78,17 +77,12 @@ fn word_read(belongs: bool, queue: Queue, word: u16) -> Queue
     requires { QueueFit queue }
     ensures { result ≡ word_read belongs queue word }
 {
-    if !belongs {
+    let Some(i) = own_place(belongs, queue) else {
         return queue;
-    }
-    let i = queue::claimed(queue);
-    if queue.begun <= i {
-        return queue;
-    }
+    };
     let k = i as usize;
-    let crc = crc16::crc_word(queue.places[k].crc_read, word);
     let mut marked = queue;
-    marked.places[k].crc_read = crc;
+    marked.places[k].crc_read = crc16::crc_word(queue.places[k].crc_read, word);
     marked
 }
 
@@ -97,13 +91,9 @@ fn error_read(belongs: bool, queue: Queue) -> Queue
     requires { QueueFit queue }
     ensures { result ≡ error_read belongs queue }
 {
-    if !belongs {
+    let Some(i) = own_place(belongs, queue) else {
         return queue;
-    }
-    let i = queue::claimed(queue);
-    if queue.begun <= i {
-        return queue;
-    }
+    };
     let mut marked = queue;
     marked.places[i as usize].damaged = true;
     marked
@@ -114,17 +104,12 @@ fn end_read(belongs: bool, queue: Queue) -> Returned
     requires { QueueFit queue }
     ensures { result ≡ end_read belongs queue }
 {
-    let same = Returned {
-        queue: queue,
-        differs: false,
+    let Some(i) = own_place(belongs, queue) else {
+        return Returned {
+            queue,
+            differs: false,
+        };
     };
-    if !belongs {
-        return same;
-    }
-    let i = queue::claimed(queue);
-    if queue.begun <= i {
-        return same;
-    }
     let mut place = queue.places[i as usize];
     place.read = true;
     queue::give_back(queue, i, place)
@@ -134,12 +119,12 @@ fn nothing_stored(receiving: Receiving, queue: Queue, flags: Flags, ended: bool)
     ensures { result ≡ taken receiving queue flags ended }
 {
     Taken {
-        receiving: receiving,
-        queue: queue,
-        flags: flags,
-        store: Store::Keep,
+        receiving,
+        queue,
+        flags,
+        store: None,
         full: false,
-        ended: ended,
+        ended,
     }
 }
 
@@ -149,17 +134,12 @@ fn word_stored(receiving: Receiving, queue: Queue, flags: Flags, ear: Ear, word:
     ensures { result ≡ word_taken receiving queue flags ear word }
 {
     let marked = word_read(receiving.reader.belongs, queue, word);
-    let more = receiving.rx.count + 1;
     let mut longer = with_ear(receiving, ear);
-    longer.rx.count = more;
+    longer.rx.count = receiving.rx.count + 1;
     longer.reader.stored = true;
     Taken {
-        receiving: longer,
-        queue: marked,
-        flags: flags,
-        store: Store::Put(word),
-        full: false,
-        ended: false,
+        store: Some(word),
+        ..nothing_stored(longer, marked, flags, false)
     }
 }
 
@@ -170,16 +150,11 @@ fn word_dropped(receiving: Receiving, queue: Queue, flags: Flags, ear: Ear, word
 {
     let marked = word_read(receiving.reader.belongs, queue, word);
     let up = registers::raise(flags, Flag::RxOvf);
-    let dropped = Store::Keep;
     let mut stopped = with_ear(receiving, ear);
     stopped.reader.storing = false;
     Taken {
-        receiving: stopped,
-        queue: marked,
-        flags: up,
-        store: dropped,
         full: true,
-        ended: false,
+        ..nothing_stored(stopped, marked, up, false)
     }
 }
 
@@ -205,13 +180,12 @@ fn ended(receiving: Receiving, queue: Queue, flags: Flags, ear: Ear) -> Taken
 {
     let reader = receiving.reader;
     let back = end_read(reader.belongs, queue);
-    let left = back.queue;
     let quiet = unclaimed(receiving, ear);
     if back.differs {
         let up = registers::raise(flags, Flag::LineCrc);
-        return nothing_stored(quiet, left, up, reader.stored);
+        return nothing_stored(quiet, back.queue, up, reader.stored);
     }
-    nothing_stored(quiet, left, flags, reader.stored)
+    nothing_stored(quiet, back.queue, flags, reader.stored)
 }
 
 // By what the bit completed.
@@ -223,13 +197,12 @@ fn taken_by(found: Found, receiving: Receiving, queue: Queue, flags: Flags, ear:
         Found::Nothing => nothing_stored(with_ear(receiving, ear), queue, flags, false),
         Found::Start => nothing_stored(began(receiving, queue, flags, ear), queue, flags, false),
         Found::Word(word) => word_taken(receiving, queue, flags, ear, word),
-        Found::End => ended(receiving, queue, flags, ear),
+        Found::End | Found::Over => ended(receiving, queue, flags, ear),
         Found::CheckError(number) => {
             let marked = error_read(receiving.reader.belongs, queue);
             let up = registers::went_bad(flags, number);
             nothing_stored(with_ear(receiving, ear), marked, up, false)
         }
-        Found::Over => ended(receiving, queue, flags, ear),
     }
 }
 
@@ -238,10 +211,6 @@ pub fn tick_reader(receiving: Receiving, queue: Queue, flags: Flags, sin: bool) 
     requires { (QueueFit queue) × (RingFit 256 receiving.rx) }
     ensures { result ≡ tick_reader receiving queue flags sin }
 {
-    let reader = receiving.reader;
-    let before = reader.ear;
-    let heard = line::hear(before, sin);
-    let found = heard.found;
-    let ear = heard.ear;
-    taken_by(found, receiving, queue, flags, ear)
+    let heard = line::hear(receiving.reader.ear, sin);
+    taken_by(heard.found, receiving, queue, flags, heard.ear)
 }

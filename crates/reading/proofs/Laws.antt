@@ -5,9 +5,8 @@ use Prim.Native.Nat.{ℕ, suc, ◌+◌, ◌-◌, ◌*◌, ◌%◌, ◌^◌, ◌�
 use native.Mathlib.Nat.{pow-le-pow_right, zero-lt-suc}
 use native.Mathlib.Omega.{arith}
 use Rattle.base.specs.Arms.{past}
-use Rattle.base.specs.Bits.{bit, flag}
+use Rattle.base.specs.Bits.{flag}
 use Rattle.registers.specs.declared.Control.{Control}
-use Rattle.registers.specs.declared.Flags.{Flags}
 use Rattle.registers.specs.declared.Register.{Register}
 use Rattle.registers.specs.Registers.{row_of, mode_number, ccsi, txff, rxff, err, status_of, read_of}
 

@@ -2,7 +2,7 @@
 
 #![tactic(auto)]
 
-ghost use Rattle.std.specs.Prelude.{◌≡◌, ◌^◌, ◌≤◌, ◌<◌, min};
+ghost use Rattle.std.specs.Prelude.{◌≡◌, ◌^◌, ◌≤◌, ◌<◌};
 ghost use Rattle.base.specs.Bits.{flag as flag_of};
 ghost use Rattle.registers.specs.Registers.{mode_number, unmasked as unmasked_of, unhidden as unhidden_of, err as err_of, status_of, ifst_of, fifo_of, read_of};
 
@@ -13,23 +13,23 @@ fn flag(k: u16, on: bool) -> u16
     requires { k < 16 }
     ensures { (result ≡ flag_of k on) × (result ≤ 2 ^ k) }
 {
-    if on {
-        return 1 << k;
-    }
-    0
+    if on { 1 << k } else { 0 }
 }
 
 // The flags that count for ERR whatever DIAGMASK is.
 fn unmasked(flags: Flags) -> bool
     ensures { result ≡ unmasked_of flags }
 {
-    let device = flags.otp
+    flags.otp
         | flags.por
         | flags.srst
         | flags.reg_write
         | flags.spi_cs
-        | flags.queue_ovf;
-    device | flags.txffovf | flags.txffuvf | flags.rxffovf | flags.rxffuvf
+        | flags.queue_ovf
+        | flags.txffovf
+        | flags.txffuvf
+        | flags.rxffovf
+        | flags.rxffuvf
 }
 
 // The flags that DIAGMASK may hide, each by its bit.
@@ -46,14 +46,13 @@ fn unhidden(flags: Flags, mask: u16) -> bool
 pub fn err(control: Control) -> bool
     ensures { result ≡ err_of control }
 {
-    let always = unmasked(control.flags);
-    let shown = unhidden(control.flags, control.regs.diagmask);
-    let mode = control.mode;
-    let failsafe = is_failsafe(mode);
-    always | shown | failsafe
+    unmasked(control.flags)
+        | unhidden(control.flags, control.regs.diagmask)
+        | is_failsafe(control.mode)
 }
 
 // STATUS's field of the device state.
+// Stays: a code of this register (001 7.6.8), as the other fields' places are; as the numbers of `Mode` itself it would stand in a crate that reads nothing.
 fn mode_number(mode: Mode) -> u16
     ensures { (result ≡ mode_number mode) × (result ≤ 3) }
 {
@@ -68,44 +67,36 @@ fn mode_number(mode: Mode) -> u16
 pub fn status(control: Control) -> u16
     ensures { result ≡ status_of control }
 {
-    let flags = control.flags;
-    let ccsi = flag(
+    let Control {
+        mode,
+        drdy,
+        flags,
+        ..
+    } = control;
+    flag(
         14,
         flags.queue_ovf | flags.check_bit | flags.line_crc | flags.sin,
-    );
-    let txff = flag(12, flags.txffovf | flags.txffuvf);
-    let rxff = flag(11, flags.rxffovf | flags.rxffuvf);
-    let drdy = flag(10, control.drdy);
-    let srst = flag(9, flags.srst);
-    let spi = flag(8, flags.spi_cs);
-    let reg_write = flag(7, flags.reg_write);
-    let spi_crc = flag(6, flags.spi_crc);
-    let mode = control.mode;
-    let state = mode_number(mode) * 16;
-    let otp = flag(3, flags.otp);
-    let por = flag(1, flags.por);
-    let error = flag(0, err(control));
-    ccsi + txff + rxff + drdy + srst + spi + reg_write + spi_crc + state + otp + por + error
+    ) + flag(12, flags.txffovf | flags.txffuvf)
+        + flag(11, flags.rxffovf | flags.rxffuvf)
+        + flag(10, drdy)
+        + flag(9, flags.srst)
+        + flag(8, flags.spi_cs)
+        + flag(7, flags.reg_write)
+        + flag(6, flags.spi_crc)
+        + mode_number(mode) * 16
+        + flag(3, flags.otp)
+        + flag(1, flags.por)
+        + flag(0, err(control))
 }
 
 fn ifst(flags: Flags) -> u16
     ensures { result ≡ ifst_of flags }
 {
-    let spi_cs = flag(9, flags.spi_cs);
-    let queue_ovf = flag(4, flags.queue_ovf);
-    let check_bit = flag(3, flags.check_bit);
-    let line_crc = flag(1, flags.line_crc);
-    let sin = flag(0, flags.sin);
-    spi_cs + queue_ovf + check_bit + line_crc + sin
-}
-
-fn at_most(count: u16, most: u16) -> u16
-    ensures { (result ≡ min count most) × (result ≤ most) }
-{
-    if count < most {
-        return count;
-    }
-    most
+    flag(9, flags.spi_cs)
+        + flag(4, flags.queue_ovf)
+        + flag(3, flags.check_bit)
+        + flag(1, flags.line_crc)
+        + flag(0, flags.sin)
 }
 
 // The status of a FIFO: its flags, and the words in it as far as the field goes.
@@ -113,27 +104,22 @@ fn fifo(ovf: bool, uvf: bool, most: u16, count: u16) -> u16
     requires { most < 512 }
     ensures { result ≡ fifo_of ovf uvf most count }
 {
-    let over = flag(15, ovf);
-    let under = flag(14, uvf);
-    let words = at_most(count, most);
-    over + under + words
+    flag(15, ovf) + flag(14, uvf) + count.min(most)
 }
 
 // There is no register above 11.
 pub fn read(control: Control, tx_count: u16, rx_count: u16, address: u16) -> u16
     ensures { result ≡ read_of control tx_count rx_count address }
 {
-    let flags = control.flags;
-    let regs = control.regs;
-    let layout = regs.layout;
+    let Control { flags, regs, .. } = control;
     match address {
-        0 => row(layout, 0).reset,
-        1 => control.regs.spictrl,
-        2 => control.regs.ccsictrl,
-        3 => control.regs.txfflvl,
-        4 => control.regs.rxfflvl,
-        5 => row(layout, 5).reset,
-        6 => control.regs.diagmask,
+        0 => row(regs.layout, 0).reset,
+        1 => regs.spictrl,
+        2 => regs.ccsictrl,
+        3 => regs.txfflvl,
+        4 => regs.rxfflvl,
+        5 => row(regs.layout, 5).reset,
+        6 => regs.diagmask,
         7 => status(control),
         8 => ifst(flags),
         9 => fifo(flags.txffovf, flags.txffuvf, 511, tx_count),

@@ -8,13 +8,13 @@
 
 ghost use Rattle.std.specs.Prelude.{◌≤◌};
 
-use calls::{BROKEN, STORES, TAKEN, Want};
+use calls::Want;
 use records::{COLUMNS, Fields};
 use std::io;
-use table::{Text, byte, change, find, mark_after};
+use table::Text;
 
 // The cases so far: refused with note 1, with note 2, taken, and those that went wrong.
-#[derive(Clone, Copy)]
+#[derive(Clone, Copy, Default)]
 struct Tally {
     stores: u64,
     broken: u64,
@@ -22,53 +22,26 @@ struct Tally {
     wrong: u64,
 }
 
-fn print(rt: &impl Print, text: &[u8]) -> io::Result<()> {
-    rt.write_all(text)
-}
-
-fn tell(rt: &impl Print, number: u64, text: &[u8]) -> io::Result<()> {
-    print!(rt; "{number}")?;
-    print(rt, text)
-}
-
-fn one_more(count: u64) -> u64 {
-    std::num::wrapping_add_u64(count, 1)
-}
-
-fn counted(tally: Tally, kind: u16) -> Tally {
-    let mut t = tally;
-    match kind {
-        STORES => t.stores = one_more(t.stores),
-        BROKEN => t.broken = one_more(t.broken),
-        TAKEN => t.taken = one_more(t.taken),
-        _ => t.wrong = one_more(t.wrong),
-    }
-    t
-}
-
-fn judged(rt: &impl Print, tally: Tally, kind: u16, right: bool) -> io::Result<Tally> {
-    if right {
-        print(rt, b"\n")?;
-        return Ok(counted(tally, kind));
-    }
-    print(rt, b": WRONG\n")?;
-    Ok(counted(tally, 0))
-}
-
-fn said(calls: u16, word: u16) -> Want {
-    Want {
-        calls: calls,
-        word: word,
+impl Tally {
+    // A case that went as wanted, or one that did not.
+    fn count(&mut self, went: Option<Want>) {
+        let count = match went {
+            Some(Want::Stores) => &mut self.stores,
+            Some(Want::Broken) => &mut self.broken,
+            Some(Want::Taken) => &mut self.taken,
+            None => &mut self.wrong,
+        };
+        *count = count.wrapping_add(1);
     }
 }
 
-// By two bytes of the text that is printed: `taken`, `note 1, as lent`, `word note 5, taken`.
-fn wanted(seventh: u8, twelfth: u8) -> Want {
+// By two bytes of the text that is printed: `taken`, `note 1, as lent`, `word note 5, taken`. The calls, and the word's note where there is one.
+fn wanted(seventh: u8, twelfth: u8) -> (Want, Option<u16>) {
     match seventh {
-        b'1' => said(STORES, 0),
-        b'2' => said(BROKEN, 0),
-        b'n' => said(TAKEN, (twelfth % 16) as u16),
-        _ => said(TAKEN, 0),
+        b'1' => (Want::Stores, None),
+        b'2' => (Want::Broken, None),
+        b'n' if twelfth % 16 != 0 => (Want::Taken, Some(u16::from(twelfth % 16))),
+        _ => (Want::Taken, None),
     }
 }
 
@@ -76,120 +49,100 @@ fn wanted(seventh: u8, twelfth: u8) -> Want {
 fn change_common(fields: &mut Fields, text: &Text, group: usize) -> bool
     requires { group ≤ 65535 }
 {
-    let start = find(text, 0, 65535, b'<');
-    let idle = change(fields, text, start, find(text, start, 65535, b'>'));
-    let from = mark_after(text, group);
-    idle & change(fields, text, from, find(text, group, 65535, b'\n'))
+    let start = text.find(0, 65535, b'<');
+    let idle = text.change(fields, start, text.find(start, 65535, b'>'));
+    let from = text.mark_after(group);
+    idle & text.change(fields, from, text.find(group, 65535, b'\n'))
 }
 
-fn is_read(rt: &impl Print, read: bool) -> io::Result<bool> {
-    if !read {
-        print(rt, b" cannot be read")?;
-    }
-    Ok(read)
-}
-
-// Behind a first semicolon a case's own changes, and behind a second what its word changes.
-fn is_right(
-    rt: &impl Print,
-    text: &Text,
-    group: usize,
-    from: usize,
-    end: usize,
-    want: Want,
-) -> io::Result<bool>
-    requires group_bound { group ≤ 65535 }
-    requires from_bound { from ≤ 65535 }
-    requires end_bound { end ≤ 65535 }
-{
-    let mut lent = [0u16; COLUMNS];
-    let common = change_common(&mut lent, text, group);
-    let own = change(&mut lent, text, from, find(text, from, end, b';'));
-    let mut after = lent;
-    let all = change(&mut after, text, from, end);
-    let read = is_read(rt, common & own & all)?;
-    let right = calls::tried(rt, &lent, &after, want)?;
-    Ok(read & right)
-}
-
-fn case(
-    rt: &impl Print,
-    tally: Tally,
-    text: &Text,
+// A line of the table: where it begins and ends, and where the changes stand that the cases from there on have in common.
+#[derive(Drop)]
+struct Line<'a> {
+    text: &'a Text,
     group: usize,
     at: usize,
     end: usize,
-) -> io::Result<Tally>
-    requires group_bound { group ≤ 65535 }
-    requires at_le_end { at ≤ end }
-    requires end_bound { end ≤ 65535 }
-{
-    let semicolon = find(text, at, end, b';');
-    let colon = find(text, at, semicolon, b':');
-    let line: &[u8] = text;
-    print(rt, &line[at..semicolon])?;
-    let want = wanted(byte(text, colon + 7), byte(text, colon + 12));
-    let right = is_right(rt, text, group, mark_after(text, semicolon), end, want)?;
-    judged(rt, tally, want.calls, right & (colon < semicolon))
+    ghost group_bound: { group ≤ 65535 },
+    ghost at_le_end: { at ≤ end },
+    ghost end_bound: { end ≤ 65535 },
 }
 
-fn begins_case(first: u8) -> bool {
-    (first != b'#') & (first != b'=') & (first != b'>') & (first != b'\n') & (first != 0)
-}
-
-fn line(
-    rt: &impl Print,
-    tally: Tally,
-    text: &Text,
-    group: usize,
-    at: usize,
-    end: usize,
-) -> io::Result<Tally>
-    requires group_bound { group ≤ 65535 }
-    requires at_le_end { at ≤ end }
-    requires end_bound { end ≤ 65535 }
-{
-    if begins_case(byte(text, at)) {
-        return case(rt, tally, text, group, at, end);
+impl Line<'_> {
+    // Behind a first semicolon a case's own changes, and behind a second what its word changes.
+    fn is_right(
+        &self,
+        rt: &impl Print,
+        from: usize,
+        want: Want,
+        word: Option<u16>,
+    ) -> io::Result<bool>
+        requires { from ≤ 65535 }
+    {
+        let text = self.text;
+        let mut lent = [0; COLUMNS];
+        let common = change_common(&mut lent, text, self.group);
+        let own = text.change(&mut lent, from, text.find(from, self.end, b';'));
+        let mut after = lent;
+        let all = text.change(&mut after, from, self.end);
+        let read = common && own && all;
+        if !read {
+            print!(rt; " cannot be read")?;
+        }
+        let right = calls::tried(rt, &lent, &after, want, word)?;
+        Ok(read && right)
     }
-    Ok(tally)
-}
 
-// Where the changes stand that the cases from here on have in common.
-fn group_at(first: u8, group: usize, at: usize) -> usize
-    requires { group ≤ at }
-    ensures { result ≤ at }
-{
-    if first == b'=' {
-        return at;
+    // What was wanted of a case that went so.
+    fn case(&self, rt: &impl Print) -> io::Result<Option<Want>> {
+        let text = self.text;
+        let semicolon = text.find(self.at, self.end, b';');
+        let colon = text.find(self.at, semicolon, b':');
+        rt.write_all(&text.bytes[self.at..semicolon])?;
+        let (want, word) = wanted(text.byte(colon + 7), text.byte(colon + 12));
+        let right = self.is_right(rt, text.mark_after(semicolon), want, word)?;
+        if right && colon < semicolon {
+            println!(rt)?;
+            return Ok(Some(want));
+        }
+        println!(rt; ": WRONG")?;
+        Ok(None)
     }
-    group
 }
 
 fn walked(rt: &impl Print, text: &Text) -> io::Result<Tally> {
-    let mut tally = Tally {
-        stores: 0,
-        broken: 0,
-        taken: 0,
-        wrong: 0,
-    };
-    let mut at = find(text, 0, 65535, b'>');
+    let mut tally = Tally::default();
+    let mut at = text.find(0, 65535, b'>');
     let mut group = at;
     while at < 65535 {
-        let end = find(text, at, 65535, b'\n');
-        group = group_at(byte(text, at), group, at);
-        tally = line(rt, tally, text, group, at, end)?;
+        let end = text.find(at, 65535, b'\n');
+        match text.byte(at) {
+            b'=' => group = at,
+            b'#' | b'>' | b'\n' | 0 => {}
+            _ => {
+                let line = Line {
+                    text,
+                    group,
+                    at,
+                    end,
+                };
+                tally.count(line.case(rt)?);
+            }
+        }
         at = end + 1;
     }
     Ok(tally)
 }
 
 fn main(rt: HostRuntime) -> io::Result<()> {
-    let mut text = [0u8; 65536];
-    console::read_full(&mut rt.stdin(), &mut text)?;
-    let tally = walked(&rt, &text)?;
-    tell(&rt, tally.stores, b" of note 1, ")?;
-    tell(&rt, tally.broken, b" of note 2, ")?;
-    tell(&rt, tally.taken, b" taken, ")?;
-    tell(&rt, tally.wrong, b" wrong; eleven calls each\n")
+    let mut text = Text { bytes: [0; 65536] };
+    console::read_full(&mut rt.stdin(), &mut text.bytes)?;
+    let Tally {
+        stores,
+        broken,
+        taken,
+        wrong,
+    } = walked(&rt, &text)?;
+    println!(rt;
+        "{stores} of note 1, {broken} of note 2, {taken} taken, {wrong} wrong; eleven calls each"
+    )
 }

@@ -1,7 +1,8 @@
 -- What the arms of a decision by layout or by code know, as the proofs of the functions ask it. Assumes nothing.
-use mathlib.Core.Path.{◌≡◌, refl, sym, ◌∙◌, ap}
+use mathlib.Core.Path.{◌≡◌, refl, sym}
 use mathlib.Core.Bool.{Bool}
-use Prim.Native.Nat.{ℕ, zero, suc, ◌-◌, ◌/◌, ◌%◌, ◌≤◌, ◌<◌}
+use mathlib.Core.List.{List}
+use Prim.Native.Nat.{ℕ, zero, suc, ◌-◌, ◌/◌, ◌%◌, ◌≤◌}
 use native.Mathlib.Omega.{arith}
 use lib.Dec.{eqb}
 use lib.ListN.{get_or-eq_default}
@@ -17,8 +18,8 @@ module _ (v k : Layout) (e : v ≡ k) where
   pub to_reset : (x : Regs) → x ≡ reset_regs k → x ≡ reset_regs v
   to_reset x h = rw e h
 
-  pub to_row : (a : ℕ) (x : Register) → x ≡ row_of k a → x ≡ row_of v a
-  to_row a x h = rw e h
+  pub to_rows : (x : List Register) → x ≡ table_of k → x ≡ table_of v
+  to_rows x h = rw e h
 
   pub to_limit : (s x : ℕ) → x ≡ dog_limit_in k s → x ≡ dog_limit_in v s
   to_limit s x h = rw e h

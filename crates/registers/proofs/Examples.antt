@@ -7,7 +7,7 @@ use Rattle.layout.specs.declared.Layout.TheVariants.{Ours}
 use Rattle.registers.specs.declared.Flags.{Flags}
 use Rattle.registers.specs.declared.Control.{Control}
 use Rattle.registers.specs.declared.Mode.TheVariants.{Init}
-use Rattle.registers.specs.Registers.{table_of, reset_regs, cleared, is_normal, is_failsafe, mode_number, err, status_of, power_up_flags, power_up_control}
+use Rattle.registers.specs.Registers.{table_of, reset_regs, cleared, err, status_of, power_up_flags, power_up_control}
 use Rattle.registers.specs.Writing.{mode_after, write_status, write_masked, write_of}
 
 power_up_lem : status_of (power_up_control Ours) ≡ 0x0403

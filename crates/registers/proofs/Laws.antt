@@ -16,7 +16,7 @@ use Rattle.registers.specs.declared.Register.{Register}
 use Rattle.registers.specs.declared.Regs.{Regs}
 use Rattle.registers.specs.declared.Control.{Control}
 use Rattle.registers.specs.declared.Written.{Written}
-use Rattle.registers.specs.Registers.{row, table_of, row_of, reset_regs, regs_sound, is_failsafe, mode_number, err, status_of, ifst_of, fifo_of, read_of, power_up_flags, power_up_control}
+use Rattle.registers.specs.Registers.{row, table_of, row_of, reset_regs, regs_sound, err, status_of, ifst_of, fifo_of, read_of, power_up_flags, power_up_control}
 use Rattle.registers.specs.Writing.{with_spictrl, with_txfflvl, with_rxfflvl, with_diagmask, write_ccsictrl, write_txfflvl, write_rxfflvl, write_status, write_masked, write_of}
 
 -- The reset column of a table, by one test along it.

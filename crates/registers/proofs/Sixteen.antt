@@ -1,7 +1,7 @@
 -- A word has sixteen bits, as the proof of `bit` asks it. Assumes nothing.
-use mathlib.Core.Path.{◌≡◌, sym, ◌∙◌, ap}
+use mathlib.Core.Path.{◌≡◌, sym, ap}
 use mathlib.Core.Bool.{false}
-use Prim.Native.Nat.{ℕ, ◌/◌, ◌^◌, ◌≤◌, ◌<◌}
+use Prim.Native.Nat.{ℕ, ◌≤◌, ◌<◌}
 use native.Mathlib.Nat.{lt_of_lt_of_le, div-eq_of_lt}
 use lib.Pow.{pow_mono}
 use Rattle.base.specs.Bits.{bit, odd}

@@ -1,5 +1,5 @@
 -- A flag raised by name: that one is up, the others stay (01 Notes, Registers); CHECK_BIT goes up with a number (02 item 4). Assumes nothing.
-use Rattle.std.specs.Prelude.{Bool, true, ◌||◌, ℕ, eqb}
+use Rattle.std.specs.Prelude.{true, ◌||◌, ℕ, eqb}
 use Rattle.base.specs.Pick.{pick}
 use Rattle.registers.specs.declared.Flag.{Flag}
 use Rattle.registers.specs.declared.Flag.TheVariants.{Srst, RegWrite, SpiCrc, SpiCs, QueueOvf, LineCrc, SinStuck, TxOvf, TxUvf, RxOvf, RxUvf}

@@ -1,6 +1,6 @@
 -- The fields of SPICTRL, where each layout has them (01 Registers; 001 7.6.2, table 7-6; 02 item 7). Bit 0, no answer, is the same in both. Assumes
 -- nothing.
-use Rattle.std.specs.Prelude.{Bool, false, List, [], ◌∷◌, ℕ, ◌/◌, ◌%◌, get_or}
+use Rattle.std.specs.Prelude.{Bool, false, [], ◌∷◌, ℕ, ◌/◌, ◌%◌, get_or}
 use Rattle.base.specs.Bits.{bit}
 use Rattle.layout.specs.declared.Layout.{Layout}
 use Rattle.layout.specs.declared.Layout.TheVariants.{Ours, Makers}

@@ -1,5 +1,5 @@
 -- What a write of each address does to registers, flags and device state (01 Registers). Assumes nothing.
-use Rattle.std.specs.Prelude.{Bool, true, false, ◌&&◌, List, [], ◌∷◌, ℕ, ◌%◌, get_or}
+use Rattle.std.specs.Prelude.{Bool, ◌&&◌, [], ◌∷◌, ℕ, ◌%◌, get_or}
 use Rattle.std.specs.Int.Bits.{bit_and}
 use Rattle.base.specs.Pick.{pick}
 use Rattle.base.specs.Bits.{bit}

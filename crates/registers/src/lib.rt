@@ -8,7 +8,7 @@ mod spictrl;
 mod word;
 
 ghost use Rattle.std.specs.Prelude.{◌≡◌};
-ghost use Rattle.registers.specs.Registers.{cleared, blocking as blocking_of, is_normal, is_failsafe, row_of, reset_regs, regs_sound, power_up_control};
+ghost use Rattle.registers.specs.Registers.{cleared, blocking as blocking_of, is_normal, is_failsafe, table_of, row_of, reset_regs, regs_sound, power_up_control};
 
 use layout::Layout;
 pub use raising::{raise, went_bad};
@@ -101,68 +101,60 @@ pub struct Written {
     pub effect: Effect,
 }
 
+// The rows that both tables have (01's table; 001 7.6).
+const CCSICTRL: Register = Register {
+    reset: 0x0000,
+    writable: 0xFFFF,
+};
+
+const RXFFLVL: Register = Register {
+    reset: 0x00FF,
+    writable: 0x80FF,
+};
+
+const DEVCTRL: Register = Register {
+    reset: 0x0000,
+    writable: 0x0005,
+};
+
+const DIAGMASK: Register = Register {
+    reset: 0x0000,
+    writable: 0x0B01,
+};
+
+const STATUS: Register = Register {
+    reset: 0x0403,
+    writable: 0x8000,
+};
+
+// IFST, TXFFST, RXFFST and register 11 (02 item 4); our DEVID; and what there is beyond the table.
+const READ_ONLY: Register = Register {
+    reset: 0x0000,
+    writable: 0x0000,
+};
+
 // By address (01's table): what power-up, write and read go by.
 pub const OURS: [Register; 12] = [
-    // 0 DEVID
-    Register {
-        reset: 0x0000,
-        writable: 0x0000,
-    },
+    READ_ONLY,
     // 1 SPICTRL
     Register {
         reset: 0x0000,
         writable: 0xFF01,
     },
-    // 2 CCSICTRL
-    Register {
-        reset: 0x0000,
-        writable: 0xFFFF,
-    },
+    CCSICTRL,
     // 3 TXFFLVL
     Register {
         reset: 0x003F,
         writable: 0x81FF,
     },
-    // 4 RXFFLVL
-    Register {
-        reset: 0x00FF,
-        writable: 0x80FF,
-    },
-    // 5 DEVCTRL
-    Register {
-        reset: 0x0000,
-        writable: 0x0005,
-    },
-    // 6 DIAGMASK
-    Register {
-        reset: 0x0000,
-        writable: 0x0B01,
-    },
-    // 7 STATUS
-    Register {
-        reset: 0x0403,
-        writable: 0x8000,
-    },
-    // 8 IFST
-    Register {
-        reset: 0x0000,
-        writable: 0x0000,
-    },
-    // 9 TXFFST
-    Register {
-        reset: 0x0000,
-        writable: 0x0000,
-    },
-    // 10 RXFFST
-    Register {
-        reset: 0x0000,
-        writable: 0x0000,
-    },
-    // 11 BADWORD
-    Register {
-        reset: 0x0000,
-        writable: 0x0000,
-    },
+    RXFFLVL,
+    DEVCTRL,
+    DIAGMASK,
+    STATUS,
+    READ_ONLY,
+    READ_ONLY,
+    READ_ONLY,
+    READ_ONLY,
 ];
 
 // The maker's (001 7.6), with register 11 behind it (02 item 4).
@@ -177,56 +169,20 @@ pub const MAKERS: [Register; 12] = [
         reset: 0x00A0,
         writable: 0x30F7,
     },
-    // 2 CCSICTRL
-    Register {
-        reset: 0x0000,
-        writable: 0xFFFF,
-    },
+    CCSICTRL,
     // 3 TXFFLVL
     Register {
         reset: 0x01FF,
         writable: 0x81FF,
     },
-    // 4 RXFFLVL
-    Register {
-        reset: 0x00FF,
-        writable: 0x80FF,
-    },
-    // 5 DEVCTRL
-    Register {
-        reset: 0x0000,
-        writable: 0x0005,
-    },
-    // 6 DIAGMASK
-    Register {
-        reset: 0x0000,
-        writable: 0x0B01,
-    },
-    // 7 STATUS
-    Register {
-        reset: 0x0403,
-        writable: 0x8000,
-    },
-    // 8 IFST
-    Register {
-        reset: 0x0000,
-        writable: 0x0000,
-    },
-    // 9 TXFFST
-    Register {
-        reset: 0x0000,
-        writable: 0x0000,
-    },
-    // 10 RXFFST
-    Register {
-        reset: 0x0000,
-        writable: 0x0000,
-    },
-    // 11 BADWORD
-    Register {
-        reset: 0x0000,
-        writable: 0x0000,
-    },
+    RXFFLVL,
+    DEVCTRL,
+    DIAGMASK,
+    STATUS,
+    READ_ONLY,
+    READ_ONLY,
+    READ_ONLY,
+    READ_ONLY,
 ];
 
 impl Regs {
@@ -249,27 +205,34 @@ impl Regs {
     };
 }
 
+impl Flags {
+    const DOWN: Flags = Flags {
+        otp: false,
+        por: false,
+        srst: false,
+        reg_write: false,
+        spi_crc: false,
+        spi_cs: false,
+        queue_ovf: false,
+        check_bit: false,
+        line_crc: false,
+        sin: false,
+        txffovf: false,
+        txffuvf: false,
+        rxffovf: false,
+        rxffuvf: false,
+        bad_word: 0,
+    };
+}
+
 impl Control {
     // With good OTP, in our layout. POR is up and DRDY is 1, as STATUS's reset value says.
     pub const POWER_UP: Control = Control {
         mode: Mode::Normal,
         drdy: true,
         flags: Flags {
-            otp: false,
             por: true,
-            srst: false,
-            reg_write: false,
-            spi_crc: false,
-            spi_cs: false,
-            queue_ovf: false,
-            check_bit: false,
-            line_crc: false,
-            sin: false,
-            txffovf: false,
-            txffuvf: false,
-            rxffovf: false,
-            rxffuvf: false,
-            bad_word: OURS[11].reset,
+            ..Flags::DOWN
         },
         regs: Regs::OURS,
     };
@@ -288,10 +251,19 @@ fn reset_regs(layout: Layout) -> Regs
 pub fn power_up_control(layout: Layout) -> Control
     ensures { result ≡ power_up_control layout }
 {
-    let regs = reset_regs(layout);
-    let mut control = Control::POWER_UP;
-    control.regs = regs;
-    control
+    Control {
+        regs: reset_regs(layout),
+        ..Control::POWER_UP
+    }
+}
+
+fn rows(layout: Layout) -> &'static [Register; 12]
+    ensures { result.now ≡ table_of layout }
+{
+    match layout {
+        Layout::Ours => &OURS,
+        Layout::Makers => &MAKERS,
+    }
 }
 
 // What the chosen layout's table has at an address; nothing where there is no register.
@@ -299,19 +271,9 @@ pub fn row(layout: Layout, address: u16) -> Register
     ensures { result ≡ row_of layout address }
 {
     if address < 12 {
-        let at = address as usize;
-        match layout {
-            Layout::Ours => {
-                return OURS[at];
-            }
-            Layout::Makers => {
-                return MAKERS[at];
-            }
-        }
-    }
-    Register {
-        reset: 0,
-        writable: 0,
+        rows(layout)[usize::from(address)]
+    } else {
+        READ_ONLY
     }
 }
 
@@ -321,20 +283,7 @@ pub fn cleared_flags(flags: Flags) -> Flags
 {
     Flags {
         otp: flags.otp,
-        por: false,
-        srst: false,
-        reg_write: false,
-        spi_crc: false,
-        spi_cs: false,
-        queue_ovf: false,
-        check_bit: false,
-        line_crc: false,
-        sin: false,
-        txffovf: false,
-        txffuvf: false,
-        rxffovf: false,
-        rxffuvf: false,
-        bad_word: 0,
+        ..Flags::DOWN
     }
 }
 
@@ -345,34 +294,26 @@ pub fn blocking(flags: Flags) -> bool
     flags.txffovf | flags.txffuvf | flags.queue_ovf
 }
 
+// "Bad OTP stays in INIT": force does not act there.
 pub fn is_normal(mode: Mode) -> bool
     ensures { result ≡ is_normal mode }
 {
-    match mode {
-        Mode::Normal => true,
-        Mode::Init => false, // "Bad OTP stays in INIT": force does not act there.
-        Mode::Failsafe => false,
-    }
+    matches!(mode, Mode::Normal)
 }
 
 pub fn is_failsafe(mode: Mode) -> bool
     ensures { result ≡ is_failsafe mode }
 {
-    match mode {
-        Mode::Normal => false,
-        Mode::Init => false,
-        Mode::Failsafe => true,
-    }
+    matches!(mode, Mode::Failsafe)
 }
 
 // The record rule of the registers: no bit is up that a write cannot reach.
 pub fn regs_sound(regs: Regs) -> bool
     ensures { result ≡ regs_sound regs }
 {
-    let layout = regs.layout;
-    let spictrl = regs.spictrl & row(layout, 1).writable == regs.spictrl;
+    let spictrl = regs.spictrl & row(regs.layout, 1).writable == regs.spictrl;
     let txfflvl = regs.txfflvl < 512;
     let rxfflvl = regs.rxfflvl < 256;
-    let diagmask = regs.diagmask & row(layout, 6).writable == regs.diagmask;
+    let diagmask = regs.diagmask & row(regs.layout, 6).writable == regs.diagmask;
     spictrl & txfflvl & rxfflvl & diagmask
 }

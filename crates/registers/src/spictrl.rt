@@ -21,8 +21,7 @@ fn dog_code(code: u16) -> u16
 pub fn dog_limit(regs: Regs) -> u16
     ensures { result ≡ dog_limit regs }
 {
-    let layout = regs.layout;
-    match layout {
+    match regs.layout {
         Layout::Ours => regs.spictrl / 256,
         Layout::Makers => dog_code(regs.spictrl / 4096 % 4),
     }
@@ -32,8 +31,7 @@ pub fn dog_limit(regs: Regs) -> u16
 pub fn is_xmodem(regs: Regs) -> bool
     ensures { result ≡ is_xmodem regs }
 {
-    let layout = regs.layout;
-    match layout {
+    match regs.layout {
         Layout::Ours => false,
         Layout::Makers => regs.spictrl / 4 % 2 == 1,
     }

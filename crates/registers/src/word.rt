@@ -5,8 +5,5 @@ ghost use Rattle.base.specs.Bits.{bit as bit_of};
 pub fn bit(word: u16, k: u16) -> bool
     ensures { result ≡ bit_of k word }
 {
-    if k < 16 {
-        return (word >> k) % 2 == 1;
-    }
-    false
+    k < 16 && (word >> k) % 2 == 1
 }

@@ -1,5 +1,5 @@
 -- Chip select released (01 Frames; note 12). Assumes nothing.
-use Rattle.std.specs.Prelude.{Bool, false, ℕ, ltb}
+use Rattle.std.specs.Prelude.{Bool, false, ℕ, ltb, None}
 use Rattle.base.specs.Pick.{pick}
 use Rattle.command.specs.declared.Command.{Command}
 use Rattle.registers.specs.Raising.{raised_in}
@@ -10,7 +10,6 @@ use Rattle.state.specs.declared.Deed.{Deed}
 use Rattle.state.specs.declared.Deed.TheVariants.{Leave, TakeBack, ClearAll}
 use Rattle.state.specs.declared.Note.TheVariants.{Done, CutShort}
 use Rattle.state.specs.declared.Phase.TheVariants.{Idle, Answering, Collecting, Discarding}
-use Rattle.state.specs.declared.Store.TheVariants.{Keep}
 use Rattle.plan.specs.Plan.{no_answer, plain}
 use Rattle.plan.specs.declared.Plan.{Plan}
 use Rattle.plan.specs.declared.Receive.TheVariants.{LeaveRx}
@@ -26,7 +25,7 @@ cut b d = record {
   phase = Idle;
   held = b.frame.held;
   control = raised_in b.control SpiCs;
-  store = Keep;
+  store = None;
   deed = d;
   receive = LeaveRx;
   note = CutShort;

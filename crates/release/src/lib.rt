@@ -6,37 +6,30 @@ ghost use Rattle.std.specs.Prelude.{◌≡◌, false};
 ghost use Rattle.release.specs.Release.{cut_deed, cut as cut_of, released_in};
 
 use command::Command;
-use plan::{NO_ANSWER, Plan, Receive, plain, raised_in};
+use plan::{Plan, plain, raised_in};
 use registers::Flag;
-use state::{Bridge, Deed, Note, Phase, Store};
+use state::{Bridge, Deed, Note, Phase};
 
 // Note 12: what becomes of a forward.
 fn cut_deed(command: Command, got: u16, mine: u16, released: bool) -> Deed
     ensures { result ≡ cut_deed command got mine released }
 {
-    if released {
-        if state::is_due(command, got) {
-            return Deed::ClearAll;
-        }
-        return Deed::Leave;
+    if !released {
+        return Deed::TakeBack(mine);
     }
-    Deed::TakeBack(mine)
+    if state::is_due(command, got) {
+        return Deed::ClearAll;
+    }
+    Deed::Leave
 }
 
 fn cut(bridge: Bridge, command: Command, got: u16, mine: u16, released: bool) -> Plan
     ensures { result ≡ cut_of bridge (cut_deed command got mine released) }
 {
-    let held = bridge.frame.held;
     Plan {
-        phase: Phase::Idle,
-        held: held,
         control: raised_in(bridge.control, Flag::SpiCs),
-        store: Store::Keep,
         deed: cut_deed(command, got, mine, released),
-        receive: Receive::LeaveRx,
-        note: Note::CutShort,
-        sdo: NO_ANSWER,
-        status: false,
+        ..plain(bridge, Phase::Idle, Note::CutShort)
     }
 }
 
@@ -44,19 +37,16 @@ fn cut(bridge: Bridge, command: Command, got: u16, mine: u16, released: bool) ->
 pub fn released(bridge: Bridge) -> Plan
     ensures { result ≡ released_in bridge bridge.frame.phase }
 {
-    let frame = bridge.frame;
-    let phase = frame.phase;
-    match phase {
-        Phase::Idle => plain(bridge, Phase::Idle, Note::Done),
+    match bridge.frame.phase {
         Phase::Collecting {
             command,
             got,
-            crc: _,
             mine,
             released,
-            blocked: _,
+            ..
         } => cut(bridge, command, got, mine, released),
-        Phase::Answering { reply: _, crc: _ } => plain(bridge, Phase::Idle, Note::Done),
-        Phase::Discarding => plain(bridge, Phase::Idle, Note::Done),
+        Phase::Idle | Phase::Answering { .. } | Phase::Discarding => {
+            plain(bridge, Phase::Idle, Note::Done)
+        }
     }
 }

@@ -40,22 +40,18 @@ pub fn sound(bridge: Bridge) -> bool
     ensures { result ≡ sound_of bridge }
 {
     let control = bridge.control;
-    let regs = control.regs;
-    let layout = regs.layout;
     let sending = bridge.sending;
     let receiving = bridge.receiving;
-    let reader = receiving.reader;
     let frame = bridge.frame;
-    let phase = frame.phase;
     let waiting = place_rules::words_waiting(sending.queue);
     ring_sound(sending.tx, 512)
         & ring_sound(receiving.rx, 256)
         & frame_rules::control_sound(control, receiving.rx.count)
         & place_rules::queue_sound(sending.queue)
         & line_rules::sender_sound(sending.sender, sending.queue)
-        & line_rules::reader_sound(reader, sending.queue, control.flags)
-        & frame_rules::phase_sound(phase)
-        & frame_rules::flags_sound(control.flags, phase)
-        & ledger(sending, phase, waiting)
-        & frame_rules::algorithm_sound(layout, frame.xmodem)
+        & line_rules::reader_sound(receiving.reader, sending.queue, control.flags)
+        & frame_rules::phase_sound(frame.phase)
+        & frame_rules::flags_sound(control.flags, frame.phase)
+        & ledger(sending, frame.phase, waiting)
+        & frame_rules::algorithm_sound(control.regs.layout, frame.xmodem)
 }

@@ -1,4 +1,5 @@
 -- `SameBits`: what a tick sends is decided by TX, the sender and what waits, and no rule of places changes what waits. Assumes nothing.
+use Rattle.std.specs.Prelude.{Option}
 use mathlib.Core.Path.{◌≡◌, refl, sym, ◌∙◌, ap, subst}
 use mathlib.Core.Bool.{Bool, true, false, not}
 use mathlib.Core.List.{List, [], ◌∷◌, ◌++◌}
@@ -17,7 +18,6 @@ use Rattle.state.specs.declared.Place.{Place}
 use Rattle.state.specs.declared.Queue.{Queue}
 use Rattle.state.specs.declared.Returned.{Returned}
 use Rattle.state.specs.declared.Sending.{Sending}
-use Rattle.state.specs.declared.Store.{Store}
 use Rattle.next.specs.Next.{choose}
 use Rattle.next.specs.declared.Next.{Next}
 use Rattle.next.specs.declared.Next.TheVariants.{GoOn, LoadWord, Starve, LoadEnd, StartWords, StartEnds, Stay}
@@ -174,7 +174,7 @@ module _ (s t : Sending) (a : Alike s t) (may : Bool) (w : ℕ) where
 
 -- 4. A host word, and a run.
 
-stored_alike : (s t : Sending) (st : Store) → Alike s t → Alike (stored s st) (stored t st)
+stored_alike : (s t : Sending) (st : Option ℕ) → Alike s t → Alike (stored s st) (stored t st)
 unfolding stored
 stored_alike s t st a = record { fits = a.fits; others_fit = a.others_fit; tx = rw a.tx; sender = a.sender; waits = a.waits }
 
@@ -211,7 +211,7 @@ done_alike s t ResetAll a h k = record {
   waits = waiting_emptied s.queue ∙ sym (waiting_emptied t.queue);
 }
 
-holds_stored : (s : Sending) (st : Store) (d : Deed) → Holds s d → Holds (stored s st) d
+holds_stored : (s : Sending) (st : Option ℕ) (d : Deed) → Holds s d → Holds (stored s st) d
 unfolding stored
 holds_stored s st Leave h = tt
 holds_stored s st (Enqueue p) h = h

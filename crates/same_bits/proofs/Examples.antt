@@ -1,4 +1,5 @@
 -- What `SameBits` asks can be met: from power-up a word and two extra ENDs are queued, and their start bit goes out.
+use Rattle.std.specs.Prelude.{None, Some}
 use mathlib.Core.Path.{◌≡◌, refl}
 use mathlib.Core.Bool.{true, false}
 use mathlib.Core.List.{List, [], ◌∷◌}
@@ -7,12 +8,11 @@ use Rattle.state.specs.Power.{power_up, power_up_in}
 use Rattle.state.specs.Queue.{new_place}
 use Rattle.state.specs.Sending.{stored, done}
 use Rattle.state.specs.declared.Deed.TheVariants.{Leave, Enqueue}
-use Rattle.state.specs.declared.Store.TheVariants.{Keep, Put}
 use Rattle.same_bits.specs.SameBits.{Alike, Act, ticked, hosted, bits_now, bits_before, Allowed}
 use Rattle.same_bits.proofs.Bits.{line_bits_stay}
 
 abbrev acts : List Act
-acts = hosted (Put 0xAAF0) Leave ∷ hosted Keep (Enqueue (new_place 1 2 false)) ∷ ticked true 0xAAF0 ∷ []
+acts = hosted (Some 0xAAF0) Leave ∷ hosted None (Enqueue (new_place 1 2 false)) ∷ ticked true 0xAAF0 ∷ []
 
 alike : Alike power_up.sending power_up.sending
 unfolding power_up_in

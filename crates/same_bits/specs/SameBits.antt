@@ -1,7 +1,7 @@
 -- "so line bits stay as they were" (02 item 3). The sending side by the rule of places as it is, and by 01's as it was (OnePlace.antt): whatever the reader
 -- marks and frees in either, the same ticks and the same deeds of the host give the same bits. What a tick of the bridge sends is `tick_sender`'s (`ticked` of
 -- `ticks`). Assumes nothing.
-use Rattle.std.specs.Prelude.{◌≡◌, Bool, List, [], ◌∷◌, ℕ, ◌≤◌, ◌<◌, length}
+use Rattle.std.specs.Prelude.{◌≡◌, Bool, List, [], ◌∷◌, ℕ, ◌≤◌, ◌<◌, length, Option}
 use Rattle.command.specs.Layout.{most_words, most_ends}
 use Rattle.registers.specs.declared.Flags.{Flags}
 use Rattle.state.specs.Facts.{RingFit, QueueFit}
@@ -14,7 +14,6 @@ use Rattle.state.specs.declared.Place.{Place}
 use Rattle.state.specs.declared.Queue.{Queue}
 use Rattle.state.specs.declared.Receiving.{Receiving}
 use Rattle.state.specs.declared.Sending.{Sending}
-use Rattle.state.specs.declared.Store.{Store}
 use Rattle.sender.specs.Sender.{tick_sender}
 use Rattle.reader.specs.Reader.{tick_reader}
 use Rattle.same_bits.specs.OnePlace.{returned_as_one, left_as_one, bit_as_one}
@@ -41,7 +40,7 @@ pub record Alike (s t : Sending) : Type 0 where
 -- (`performed` of `plan`); the reader's half of a tick, with the queue that it leaves by the one rule and by the other. A power-up begins both anew.
 pub data Act : Type 0 where
   ticked : Bool → ℕ → Act
-  hosted : Store → Deed → Act
+  hosted : Option ℕ → Deed → Act
   heard : Queue → Queue → Act
 
 -- a deed for which the array has a record

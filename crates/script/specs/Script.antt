@@ -1,10 +1,9 @@
 -- The event script and what is printed of it (01 The bench program). Assumes nothing.
-use Rattle.std.specs.Prelude.{Bool, true, false, ◌&&◌, List, [], ◌∷◌, ◌++◌, ℕ, ◌+◌, ◌*◌, ◌/◌, ◌%◌, ltb, leb, eqb, length, get_or}
+use Rattle.std.specs.Prelude.{Bool, true, false, ◌&&◌, List, [], ◌∷◌, ℕ, ◌+◌, ◌*◌, ◌/◌, ◌%◌, ltb, leb, eqb, length, get_or, Option, None, Some}
 use Rattle.base.specs.Pick.{pick}
 use Rattle.layout.specs.declared.Layout.TheVariants.{Ours, Makers}
+use Rattle.events.specs.declared.Event.{Event}
 use Rattle.events.specs.declared.Event.TheVariants.{Power, Word, Release, Tick, Clock}
-use Rattle.script.specs.declared.Record.{Record}
-use Rattle.script.specs.declared.Record.TheVariants.{Good, Bad}
 use Rattle.script.specs.declared.Line.{Line}
 
 -- "mark CWB, a 16-bit version 1 (high byte first)"; fewer bytes are a wrong head
@@ -18,25 +17,25 @@ abbrev pub value_of : ℕ → ℕ → ℕ
 value_of high low = high * 256 + low
 
 -- "0 power (1 good, 0 bad)" is our layout's; the maker's is "script values 2 bad, 3 good" (02 item 7)
-unfoldable pub power_record : ℕ → Record
+unfoldable pub power_record : ℕ → Option Event
 power_record value =
-    get_or (Good (Power false Ours) ∷ Good (Power true Ours) ∷ Good (Power false Makers) ∷ Good (Power true Makers) ∷ []) value Bad
+    get_or (Some (Power false Ours) ∷ Some (Power true Ours) ∷ Some (Power false Makers) ∷ Some (Power true Makers) ∷ []) value None
 
 -- "3 tick (0 or 1)"
-unfoldable pub tick_record : ℕ → Record
-tick_record value = pick (leb value 1) (Good (Tick (eqb value 1))) Bad
+unfoldable pub tick_record : ℕ → Option Event
+tick_record value = pick (leb value 1) (Some (Tick (eqb value 1))) None
 
 -- "2 release (0)"
-unfoldable pub release_record : ℕ → Record
-release_record value = pick (eqb value 0) (Good Release) Bad
+unfoldable pub release_record : ℕ → Option Event
+release_record value = pick (eqb value 0) (Some Release) None
 
 -- by the kind byte: "0 power .., 1 word, 2 release .., 3 tick .., 4 clock"; every other is a wrong record
-unfoldable pub record_of : ℕ → ℕ → Record
+unfoldable pub record_of : ℕ → ℕ → Option Event
 record_of kind value =
     get_or
-    (power_record value ∷ Good (Word value) ∷ release_record value ∷ tick_record value ∷ Good (Clock value) ∷ [])
+    (power_record value ∷ Some (Word value) ∷ release_record value ∷ tick_record value ∷ Some (Clock value) ∷ [])
     kind
-    Bad
+    None
 
 -- hex digits are capitals
 abbrev pub hex_digit : ℕ → ℕ

@@ -2,124 +2,101 @@
 
 #![tactic(auto)]
 
-ghost use Rattle.std.specs.Prelude.{◌≡◌, ◌/◌, ◌%◌};
+ghost use Rattle.std.specs.Prelude.{◌≡◌, ◌≤◌, ◌/◌, ◌%◌, take};
 ghost use Rattle.events.specs.declared.Event.TheVariants.{Power};
 ghost use Rattle.script.specs.Script.{is_head, value_of, power_record, tick_record, release_record, record_of, hex_digit, digit as digit_of, sign as sign_of, line_of};
 
 use events::Event;
 use layout::Layout;
 
-// A record of the script: an event, or none.
-#[derive(Clone, Copy)]
-pub enum Record {
-    Good(Event),
-    Bad,
-}
-
 // A printed line: its bytes, and how many there are.
+// Stays: `printed` takes no allocator, and `line_of` gives both fields; `text` is the slice.
 #[derive(Clone, Copy)]
 pub struct Line {
     pub bytes: [u8; 17],
     pub length: usize,
 }
 
+impl Line {
+    pub fn text(&self) -> &[u8]
+        requires { self.now.length ≤ 17 }
+        ensures { result.now ≡ take self.now.length self.now.bytes }
+    {
+        &self.bytes[..self.length]
+    }
+}
+
 // The mark and the version at the head of a script.
 pub fn head(s: &[u8]) -> bool
     ensures { result ≡ is_head s.now }
 {
-    let mark = b"CWB\x00\x01";
-    if s.len() < 5 {
-        return false;
-    }
-    let a = s[0] == mark[0];
-    let b = s[1] == mark[1];
-    let c = s[2] == mark[2];
-    let d = s[3] == mark[3];
-    let e = s[4] == mark[4];
-    a & b & c & d & e
+    s.starts_with(b"CWB\x00\x01")
 }
 
 // A record's value, high byte first.
 pub fn value(high: u8, low: u8) -> u16
     ensures { result ≡ value_of high low }
 {
-    high as u16 * 256 + low as u16
+    u16::from_be_bytes([high, low])
 }
 
-fn powered(good: bool, layout: Layout) -> Record
-    ensures { result ≡ Record.Good (Power good layout) }
-{
-    Record::Good(Event::Power {
-        good: good,
-        layout: layout,
-    })
-}
-
-fn power(value: u16) -> Record
+fn power(value: u16) -> Option<Event>
     ensures { result ≡ power_record value }
 {
-    match value {
-        0 => powered(false, Layout::Ours),
-        1 => powered(true, Layout::Ours),
-        2 => powered(false, Layout::Makers),
-        3 => powered(true, Layout::Makers),
-        _ => Record::Bad,
-    }
+    let (good, layout) = match value {
+        0 => (false, Layout::Ours),
+        1 => (true, Layout::Ours),
+        2 => (false, Layout::Makers),
+        3 => (true, Layout::Makers),
+        _ => return None,
+    };
+    Some(Event::Power { good, layout })
 }
 
-fn release(value: u16) -> Record
+fn release(value: u16) -> Option<Event>
     ensures { result ≡ release_record value }
 {
-    if value == 0 {
-        return Record::Good(Event::Release);
-    }
-    Record::Bad
+    (value == 0).then_some(Event::Release)
 }
 
-fn tick(value: u16) -> Record
+fn tick(value: u16) -> Option<Event>
     ensures { result ≡ tick_record value }
 {
-    if value <= 1 {
-        let sin = value == 1;
-        return Record::Good(Event::Tick(sin));
-    }
-    Record::Bad
+    (value <= 1).then_some(Event::Tick(value == 1))
 }
 
 // A record by its kind byte.
-pub fn read(kind: u8, value: u16) -> Record
+pub fn read(kind: u8, value: u16) -> Option<Event>
     ensures { result ≡ record_of kind value }
 {
     match kind {
         0 => power(value),
-        1 => Record::Good(Event::Word(value)),
+        1 => Some(Event::Word(value)),
         2 => release(value),
         3 => tick(value),
-        4 => Record::Good(Event::Clock(value)),
-        _ => Record::Bad,
+        4 => Some(Event::Clock(value)),
+        _ => None,
     }
 }
 
+// Stays: digits by hand, since no clause of `write!` says the bytes that `{:04X}` prints, and `line_of` names each of them.
 fn hex(n: u16) -> u8
     ensures { result ≡ hex_digit (n % 16) }
 {
     let d = (n % 16) as u8;
-    if d < 10 {
-        return d + 0x30;
-    }
-    d + 0x37
+    if d < 10 { d + b'0' } else { d - 10 + b'A' }
 }
 
 fn digit(n: u16) -> u8
     ensures { result ≡ digit_of n }
 {
-    (n % 10) as u8 + 0x30
+    (n % 10) as u8 + b'0'
 }
 
 fn sign(bit: bool) -> u8
     ensures { result ≡ sign_of bit }
 {
-    if bit { 0x31 } else { 0x30 }
+    if bit { b'1' } else { b'0' }
 }
 
 // The line that an event prints.
@@ -140,7 +117,7 @@ pub fn printed(kind: u8, value: u16, note: u16, sdo: u16, sout: bool) -> Line
     if note < 10 {
         return Line {
             bytes: [
-                k, 0x20, v3, v2, v1, v0, 0x20, n, 0x20, s3, s2, s1, s0, 0x20, b, 0x0A, 0,
+                k, b' ', v3, v2, v1, v0, b' ', n, b' ', s3, s2, s1, s0, b' ', b, b'\n', 0,
             ],
             length: 16,
         };
@@ -148,7 +125,7 @@ pub fn printed(kind: u8, value: u16, note: u16, sdo: u16, sout: bool) -> Line
     let t = digit(note / 10);
     Line {
         bytes: [
-            k, 0x20, v3, v2, v1, v0, 0x20, t, n, 0x20, s3, s2, s1, s0, 0x20, b, 0x0A,
+            k, b' ', v3, v2, v1, v0, b' ', t, n, b' ', s3, s2, s1, s0, b' ', b, b'\n',
         ],
         length: 17,
     }

@@ -48,10 +48,11 @@ fn word_sent(place: Place, left: u16, word: u16) -> Place
 {
     let compare = compared(place, left, word);
     let crc = crc16::crc_word(place.crc_sent, word);
-    let mut p = place;
-    p.compare = compare;
-    p.crc_sent = crc;
-    p
+    Place {
+        compare,
+        crc_sent: crc,
+        ..place
+    }
 }
 
 // The word belongs to the youngest place begun.
@@ -74,10 +75,10 @@ fn first_bit(piece: Piece, left: u16, ends: u16) -> Sender
     ensures { result ≡ record { piece = piece; gone = 1; left = left; ends = ends } }
 {
     Sender {
-        piece: piece,
+        piece,
         gone: 1,
-        left: left,
-        ends: ends,
+        left,
+        ends,
     }
 }
 
@@ -91,7 +92,7 @@ fn sender_after(next: Next, sending: Sending, word: u16) -> Sender
     let piece = sender.piece;
     match next {
         Next::GoOn => Sender {
-            piece: piece,
+            piece,
             gone: sender.gone + 1,
             left: sender.left,
             ends: sender.ends,
@@ -124,23 +125,17 @@ fn begun_one(queue: Queue) -> Queue
     requires { QueueFit queue }
     ensures { result ≡ begun_one queue }
 {
-    let begun = queue.begun + 1;
-    let mut q = queue;
-    q.begun = begun;
-    q
+    Queue {
+        begun: queue.begun + 1,
+        ..queue
+    }
 }
 
 // No place is begun.
 fn gone_on(sending: Sending, sender: Sender) -> Sending
     ensures { result ≡ record { tx = sending.tx; queue = sending.queue; sender = sender } }
 {
-    let tx = sending.tx;
-    let queue = sending.queue;
-    Sending {
-        tx: tx,
-        queue: queue,
-        sender: sender,
-    }
+    Sending { sender, ..sending }
 }
 
 // The oldest place not yet begun is begun.
@@ -148,12 +143,10 @@ fn begin(sending: Sending, sender: Sender) -> Sending
     requires { QueueFit sending.queue }
     ensures { result ≡ record { tx = sending.tx; queue = begun_one sending.queue; sender = sender } }
 {
-    let tx = sending.tx;
-    let queue = begun_one(sending.queue);
     Sending {
-        tx: tx,
-        queue: queue,
-        sender: sender,
+        queue: begun_one(sending.queue),
+        sender,
+        ..sending
     }
 }
 
@@ -167,11 +160,7 @@ fn advanced(next: Next, sending: Sending, word: u16) -> Sending
         Next::LoadWord => {
             let tx = state::popped(sending.tx, 512);
             let queue = queue_sent(sending.queue, sending.sender.left, word);
-            Sending {
-                tx: tx,
-                queue: queue,
-                sender: sender,
-            }
+            Sending { tx, queue, sender }
         }
         Next::Starve => gone_on(sending, sender),
         Next::LoadEnd => gone_on(sending, sender),
@@ -185,9 +174,10 @@ fn advanced(next: Next, sending: Sending, word: u16) -> Sending
 fn place_sent(place: Place) -> Place
     ensures { result ≡ place_sent place }
 {
-    let mut p = place;
-    p.sent = true;
-    p
+    Place {
+        sent: true,
+        ..place
+    }
 }
 
 // The whole command: its ENDs' place is freed.
@@ -220,7 +210,7 @@ fn finished(sending: Sending) -> Returned
         return queue::give_back(queue, last, place);
     }
     Returned {
-        queue: queue,
+        queue,
         differs: false,
     }
 }
@@ -240,14 +230,10 @@ pub fn tick_sender(sending: Sending, may: bool, word: u16) -> Sent
     let starved = next::is_starve(next);
     let started = next::is_start(next);
     Sent {
-        sending: Sending {
-            tx: tx,
-            queue: queue,
-            sender: sender,
-        },
-        sout: sout,
-        starved: starved,
-        started: started,
+        sending: Sending { tx, queue, sender },
+        sout,
+        starved,
+        started,
         differs: back.differs,
     }
 }

@@ -1,15 +1,13 @@
 -- Laws of the definitions, in the form in which the functions' proofs ask them. Assumes nothing.
-use mathlib.Core.Path.{◌≡◌, refl, sym, ◌∙◌, ap, subst}
-use mathlib.Core.Bool.{Bool, true, false}
+use mathlib.Core.Path.{◌≡◌, refl, sym, ◌∙◌, ap}
+use mathlib.Core.Bool.{Bool, true, false, not}
 use mathlib.Core.List.{List, [], ◌∷◌}
 use Prim.Native.Nat.{ℕ, ◌+◌, ◌-◌, ◌^◌, ◌≤◌, ◌<◌}
 use native.Mathlib.Omega.{arith}
 use lib.ListN.{length, get_or, take, drop}
 use Rattle.base.specs.Pick.{pick_true, pick_false}
 use Rattle.state.specs.declared.Bridge.{Bridge}
-use Rattle.verdict.specs.Verdicts.{is_taken, is_broken, verdict_by}
-use Rattle.verdict.specs.declared.Verdict.{Verdict}
-use Rattle.verdict.specs.declared.Verdict.TheVariants.{Taken}
+use Rattle.verdict.specs.Verdicts.{is_taken, is_broken, verdict_by, Verdict, Taken}
 use Rattle.board.specs.Board.{Outcome, called, call_up_of}
 use Rattle.board.specs.Moments.{config}
 use Rattle.board.specs.declared.Board.{Board}
@@ -25,55 +23,41 @@ use Rattle.shift.specs.declared.Shifted.{Shifted}
 use Rattle.shift.proofs.Lists.{due_cut, after_cut, due_whole, after_whole, is_short, is_cut_lem, is_whole, dues_left, dues_next, sent_ticks, offer_ticks}
 
 -- an entry of the list
-module _ (cells : List ℕ) (at : ℕ) (h : at < length cells) where
-  abbrev cut_entry : Entry
-  cut_entry = record { slot = get_or cells at 0; reading = 0; from = length cells; to = length cells; next = length cells }
-
-  stands_cut : is_cut cells at ≡ true → (e : Entry) → e ≡ cut_entry → Stands cells at e
-  stands_cut c e p =
-      let none : length cells - length cells ≡ 0 = omega arith in
-      let due : due_at cells at ≡ record { slot = get_or cells at 0; reading = 0; words = [] } = due_cut cells at c in
-      subst (Stands cells at) (sym p)
-      (record {
-        slot = sym (ap (λ (d : Due). d.slot) due);
-        reading = sym (ap (λ (d : Due). d.reading) due);
-        order = omega arith;
-        within = omega arith;
-        words = ap (λ (n : ℕ). take n (drop (length cells) cells)) none ∙ sym (ap (λ (d : Due). d.words) due);
-        next = sym (after_cut cells at c);
-        onward = h;
-        last = omega arith;
-      })
-
-  pub to_short : length cells - at < 3 → (e : Entry) → e ≡ cut_entry → Stands cells at e
-  to_short k e p = stands_cut (is_short cells at (omega arith)) e p
-
-  module _ (k : 3 ≤ length cells - at) where
-    pub to_cut : length cells - (at + 3) < get_or cells (at + 2) 0 → (e : Entry) → e ≡ cut_entry → Stands cells at e
-    to_cut l e p = stands_cut (is_cut_lem cells at (omega arith) (omega arith)) e p
-
-    pub to_whole : get_or cells (at + 2) 0 ≤ length cells - (at + 3)
-        → Stands cells at
-        (record {
-          slot = get_or cells at 0;
-          reading = get_or cells (at + 1) 0;
-          from = at + 3;
-          to = at + 3 + get_or cells (at + 2) 0;
-          next = at + 3 + get_or cells (at + 2) 0;
-        })
-    to_whole l =
-        let c : is_cut cells at ≡ false = is_whole cells at (omega arith) in
-        let n : at + 3 + get_or cells (at + 2) 0 - (at + 3) ≡ get_or cells (at + 2) 0 = omega arith in
+module _ (cells : List ℕ) (at : ℕ) (h : at < length cells) (e : Entry) (s : e.slot ≡ get_or cells at 0) where
+  module _ (r : e.reading ≡ 0) (w : e.words.now ≡ []) (n : e.next ≡ length cells) where
+    stands_cut : is_cut cells at ≡ true → Stands cells at e
+    stands_cut c =
         record {
-          slot = sym (ap (λ (d : Due). d.slot) (due_whole cells at c));
-          reading = sym (ap (λ (d : Due). d.reading) (due_whole cells at c));
-          order = omega arith;
-          within = omega arith;
-          words = ap (λ (m : ℕ). take m (drop (at + 3) cells)) n ∙ sym (ap (λ (d : Due). d.words) (due_whole cells at c));
-          next = sym (after_whole cells at c);
-          onward = omega arith;
-          last = omega arith;
+          slot = s ∙ sym (ap (λ (d : Due). d.slot) (due_cut cells at c));
+          reading = r ∙ sym (ap (λ (d : Due). d.reading) (due_cut cells at c));
+          words = w ∙ sym (ap (λ (d : Due). d.words) (due_cut cells at c));
+          next = n ∙ sym (after_cut cells at c);
+          onward = omega (arith, n);
+          last = omega (arith, n);
         }
+
+    pub to_short : length cells - at < 3 → Stands cells at e
+    to_short k = stands_cut (is_short cells at (omega arith))
+
+    pub to_cut : 3 ≤ length cells - at → length cells - (at + 3) < get_or cells (at + 2) 0 → Stands cells at e
+    to_cut k l = stands_cut (is_cut_lem cells at (omega arith) (omega arith))
+
+  pub to_whole : e.reading ≡ get_or cells (at + 1) 0 → 3 ≤ length cells - at → get_or cells (at + 2) 0 ≤ length cells - (at + 3)
+      → e.words.now ≡ take (get_or cells (at + 2) 0) (drop (at + 3) cells) → e.next ≡ at + 3 + get_or cells (at + 2) 0 → Stands cells at e
+  to_whole r k l w n =
+      let c : is_cut cells at ≡ false = is_whole cells at (omega arith) in
+      record {
+        slot = s ∙ sym (ap (λ (d : Due). d.slot) (due_whole cells at c));
+        reading = r ∙ sym (ap (λ (d : Due). d.reading) (due_whole cells at c));
+        words = w ∙ sym (ap (λ (d : Due). d.words) (due_whole cells at c));
+        next = n ∙ sym (after_whole cells at c);
+        onward = omega (arith, n);
+        last = omega (arith, n);
+      }
+
+-- the words behind the three numbers of a call-up
+pub words_there : (cells : List ℕ) (at n : ℕ) → take (at + 3 + n - (at + 3)) (drop (at + 3) cells) ≡ take n (drop (at + 3) cells)
+words_there cells at n = let z : at + 3 + n - (at + 3) ≡ n = omega arith in ap (λ (m : ℕ). take m (drop (at + 3) cells)) z
 
 -- a wait, and then the call-up
 pub to_offer : (board : Board) (m : Moment) (slot reading : ℕ) (ws : List ℕ) (budget : ℕ) (w : Waited) (t u : List ℕ) (ch : List Bool)
@@ -119,27 +103,17 @@ less cells at e k = omega (arith, k.onward, k.last)
 pub record Inv (cells : List ℕ) (budget : ℕ) (s : Shifting) (board : Board) (b : Bridge) (tx rx : List ℕ) (chain : List Bool)
     (place taken ticks at : ℕ) : Type 0 where
   pub whole : shift_from (dues_left cells at) (shifting board (moment b tx rx chain place) Taken taken ticks) budget ≡ shift_from (dues_in cells) s budget
-  pub tx_is : length tx ≡ length s.moment.at.tx
-  pub rx_is : length rx ≡ length s.moment.at.rx
-  pub chain_is : length chain ≡ length s.moment.chain
   pub most : ticks ≤ budget
   pub few : taken ≤ at
-  pub fits : budget < 2 ^ 32
-  pub fit : length cells < 2 ^ 64
 
 pub begins : (cells : List ℕ) (budget : ℕ) (board : Board) (b : Bridge) (tx rx : List ℕ) (chain : List Bool) (place : ℕ)
-    → budget < 2 ^ 32 → length cells < 2 ^ 64 → Inv cells budget (shifting board (moment b tx rx chain place) Taken 0 0) board b tx rx chain place 0 0 0
-begins cells budget board b tx rx chain place h k =
+    → Inv cells budget (shifting board (moment b tx rx chain place) Taken 0 0) board b tx rx chain place 0 0 0
+begins cells budget board b tx rx chain place =
     let z : length cells - 0 ≡ length cells = omega arith in
     record {
       whole = ap (λ (n : ℕ). shift_from (dues_by n cells 0) (shifting board (moment b tx rx chain place) Taken 0 0) budget) z;
-      tx_is = refl;
-      rx_is = refl;
-      chain_is = refl;
       most = omega arith;
       few = omega arith;
-      fits = h;
-      fit = k;
     }
 
 module _ (cells : List ℕ) (budget : ℕ) (s : Shifting) (board : Board) (b : Bridge) (tx rx : List ℕ) (chain : List Bool) (place taken ticks at : ℕ)
@@ -147,8 +121,8 @@ module _ (cells : List ℕ) (budget : ℕ) (s : Shifting) (board : Board) (b : B
   abbrev so_far : Shifting
   so_far = shifting board (moment b tx rx chain place) Taken taken ticks
 
-  pub one_more : at < length cells → taken + 1 < 2 ^ 64
-  one_more h = omega (arith, v.few, v.fit)
+  pub one_more : at < length cells → length cells < 2 ^ 64 → taken + 1 < 2 ^ 64
+  one_more h k = omega (arith, v.few)
 
   -- behind the last call-up
   pub to_all : length cells ≤ at → (r : Shifted) (t u : List ℕ) (ch : List Bool)
@@ -160,44 +134,37 @@ module _ (cells : List ℕ) (budget : ℕ) (s : Shifting) (board : Board) (b : B
 
   module _ (h : at < length cells) (e : Entry) (k : Stands cells at e) (o : Offered) (t u : List ℕ) (ch : List Bool)
       (f : offered o t u ch
-      ≡ offer_of board (moment b tx rx chain place) e.slot e.reading (take (e.to - e.from) (drop e.from cells)) (budget - ticks)) where
+      ≡ offer_of board (moment b tx rx chain place) e.slot e.reading e.words.now (budget - ticks)) where
     is_next : offered o t u ch ≡ next_offer (due_at cells at) so_far budget
     is_next = f ∙ ap (λ (d : Due). next_offer d so_far budget) (λ i. record { slot = k.slot i; reading = k.reading i; words = k.words i })
 
     one_turn : shift_from (due_at cells at ∷ dues_left cells (due_after cells at)) so_far budget ≡ shift_from (dues_in cells) s budget
     one_turn = sym (ap (λ (ds : List Due). shift_from ds so_far budget) (dues_next cells at h)) ∙ v.whole
 
-    module _ (x : Bool) (p : x ≡ is_taken o.verdict) where
-      told : is_taken (next_offer (due_at cells at) so_far budget).verdict ≡ x
-      told = sym (ap (λ (z : Offer). is_taken z.verdict) is_next) ∙ sym p
+    module _ (x : Bool) (p : is_taken o.verdict ≡ not x) where
+      told : is_taken (next_offer (due_at cells at) so_far budget).verdict ≡ not x
+      told = sym (ap (λ (z : Offer). is_taken z.verdict) is_next) ∙ p
 
-      pub again : x ≡ true → length t ≡ length tx → length u ≡ length rx → length ch ≡ length chain
-          → Inv cells budget s o.board o.bridge t u ch o.oldest (taken + 1) (ticks + o.ticks) e.next
+      pub again : x ≡ false → Inv cells budget s o.board o.bridge t u ch o.oldest (taken + 1) (ticks + o.ticks) e.next
       unfolding shift_from
-      again q l m n =
+      again q =
           record {
             whole =
                 ap (λ (a : ℕ). shift_from (dues_left cells a) (taken_after so_far (offered o t u ch)) budget) k.next
                 ∙ ap (λ (z : Offer). shift_from (dues_left cells (due_after cells at)) (taken_after so_far z) budget) is_next
-                ∙ pick_true _ _ _ _ (told ∙ q) refl
+                ∙ pick_true _ _ _ _ (told ∙ ap not q) refl
                 ∙ one_turn;
-            tx_is = l ∙ v.tx_is;
-            rx_is = m ∙ v.rx_is;
-            chain_is = n ∙ v.chain_is;
             most = offer_within board (moment b tx rx chain place) e.slot e.reading _ ticks budget o t u ch f v.most;
             few = omega (arith, v.few, k.onward);
-            fits = v.fits;
-            fit = v.fit;
           }
 
-      pub to_stopped : x ≡ false → (r : Shifted)
-          → r ≡ record { board = o.board; bridge = o.bridge; oldest = o.oldest; verdict = o.verdict; taken = taken; ticks = ticks + o.ticks }
-          → shifted r t u ch ≡ shift_from (dues_in cells) s budget
+      pub to_stopped : x ≡ true
+          → shifted (record { board = o.board; bridge = o.bridge; oldest = o.oldest; verdict = o.verdict; taken = taken; ticks = ticks + o.ticks }) t u ch
+          ≡ shift_from (dues_in cells) s budget
       unfolding shift_from
-      to_stopped q r g =
-          ap (λ (z : Shifted). shifted z t u ch) g
-          ∙ ap (λ (z : Offer). stopped_after so_far z) is_next
-          ∙ pick_false _ _ _ _ (told ∙ q) refl
+      to_stopped q =
+          ap (λ (z : Offer). stopped_after so_far z) is_next
+          ∙ pick_false _ _ _ _ (told ∙ ap not q) refl
           ∙ one_turn
 
 -- notes 1 and 2

@@ -2,9 +2,7 @@
 -- refused for another reason, or where the ticks end; after the last one all that was taken is sent. Assumes nothing.
 use Rattle.std.specs.Prelude.{◌≡◌, Bool, ◌||◌, List, [], ◌∷◌, ◌++◌, ℕ, zero, suc, ◌+◌, ◌-◌, ◌≤◌, ◌<◌, ltb, length, get_or, take, drop}
 use Rattle.base.specs.Pick.{pick}
-use Rattle.verdict.specs.Verdicts.{is_taken, is_broken}
-use Rattle.verdict.specs.declared.Verdict.{Verdict}
-use Rattle.verdict.specs.declared.Verdict.TheVariants.{Taken}
+use Rattle.verdict.specs.Verdicts.{is_taken, is_broken, Verdict, Taken}
 use Rattle.board.specs.Board.{Outcome, verdict_of, call_up_of}
 use Rattle.board.specs.Moments.{config}
 use Rattle.board.specs.declared.Board.{Board}
@@ -59,13 +57,11 @@ due_at cells at =
 unfoldable pub due_after : List ℕ → ℕ → ℕ
 due_after cells at = pick (is_cut cells at) (length cells) (at + 3 + get_or cells (at + 2) 0)
 
--- where an entry of the list stands: its words are the cells `from` to `to`
+-- where an entry of the list stands
 pub record Stands (cells : List ℕ) (at : ℕ) (e : Entry) : Type 0 where
   pub slot : e.slot ≡ (due_at cells at).slot
   pub reading : e.reading ≡ (due_at cells at).reading
-  pub order : e.from ≤ e.to
-  pub within : e.to ≤ length cells
-  pub words : take (e.to - e.from) (drop e.from cells) ≡ (due_at cells at).words
+  pub words : e.words.now ≡ (due_at cells at).words
   pub next : e.next ≡ due_after cells at
   pub onward : at < e.next
   pub last : e.next ≤ length cells

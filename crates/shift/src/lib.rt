@@ -2,22 +2,22 @@
 
 #![tactic(auto)]
 
-ghost use Rattle.std.specs.Prelude.{◌≡◌, [], ◌-◌, ◌<◌, ◌≤◌, length, take, drop};
-ghost use Rattle.verdict.specs.declared.Verdict.TheVariants.{Taken};
+ghost use Rattle.std.specs.Prelude.{◌≡◌, [], ◌<◌, ◌≤◌, length};
+ghost use Rattle.verdict.specs.Verdicts.{Taken};
 ghost use Rattle.chain.specs.Chain.{moment};
 ghost use Rattle.shift.specs.Shifts.{offered, offer_of, Stands, dues_in, shifted, shifting, shift_from, shift_of};
 
 use board::Board;
 use chain::Goal;
 use state::Bridge;
-use verdict::Verdict;
+use verdict::Refusal;
 
 #[derive(Clone, Copy)]
 pub struct Offered {
     pub board: Board,
     pub bridge: Bridge,
     pub oldest: usize,
-    pub verdict: Verdict,
+    pub verdict: Result<(), Refusal>,
     pub ticks: u32,
 }
 
@@ -27,7 +27,7 @@ pub struct Shifted {
     pub board: Board,
     pub bridge: Bridge,
     pub oldest: usize,
-    pub verdict: Verdict,
+    pub verdict: Result<(), Refusal>,
     pub taken: usize,
     pub ticks: u32,
 }
@@ -48,95 +48,65 @@ pub fn offer(
     ensures { offered result tx.new rx.new chain.new ≡ offer_of board (moment bridge tx.old rx.old chain.old oldest) slot reading words.now budget }
 {
     let goal = Goal::Room {
-        slot: slot,
+        slot,
         words: words.len(),
     };
     let waited = chain::wait(bridge, tx, rx, chain, oldest, goal, budget);
     let called = board::call_up(board, waited.bridge, tx, rx, slot, reading, words);
-    let after = called.board;
-    let left = called.bridge;
-    let judged = called.verdict;
     Offered {
-        board: after,
-        bridge: left,
+        board: called.board,
+        bridge: called.bridge,
         oldest: waited.oldest,
-        verdict: judged,
+        verdict: called.verdict,
         ticks: waited.ticks,
     }
 }
 
-// A call-up of a list: its words are the cells from `from` to `to`, and `next` is where the next one begins.
+// A call-up of a list: its words are lent from the list, and `next` is where the next one begins.
 #[derive(Clone, Copy)]
-pub struct Entry {
+pub struct Entry<'a> {
     pub slot: u16,
     pub reading: u16,
-    pub from: usize,
-    pub to: usize,
+    pub words: &'a [u16],
     pub next: usize,
 }
 
 // One that is cut has no words, and is the last.
-fn cut(slot: u16, end: usize) -> Entry
-    ensures { result ≡ record { slot = slot; reading = 0; from = end; to = end; next = end } }
+fn cut(cells: &[u16], slot: u16) -> Entry<'_>
+    ensures slot { result.slot ≡ slot }
+    ensures reading { result.reading ≡ 0 }
+    ensures words { result.words.now ≡ [] }
+    ensures next { result.next ≡ length cells.now }
 {
     Entry {
-        slot: slot,
+        slot,
         reading: 0,
-        from: end,
-        to: end,
-        next: end,
+        words: &cells[..0],
+        next: cells.len(),
     }
 }
 
-fn entry_at(cells: &[u16], at: usize) -> Entry
+fn entry_at(cells: &[u16], at: usize) -> Entry<'_>
     requires { at < length cells.now }
     ensures { Stands cells.now at result }
 {
     let end = cells.len();
     let slot = cells[at];
     if end - at < 3 {
-        return cut(slot, end);
+        return cut(cells, slot);
     }
-    let reading = cells[at + 1];
     let count = cells[at + 2] as usize;
     let from = at + 3;
     if end - from < count {
-        return cut(slot, end);
+        return cut(cells, slot);
     }
-    let to = from + count;
+    let next = from + count;
     Entry {
-        slot: slot,
-        reading: reading,
-        from: from,
-        to: to,
-        next: to,
+        slot,
+        reading: cells[at + 1],
+        words: &cells[from..next],
+        next,
     }
-}
-
-// Its words are lent from the list.
-fn offer_entry(
-    board: Board,
-    bridge: Bridge,
-    tx: &mut [u16],
-    rx: &mut [u16],
-    chain: &mut [bool],
-    oldest: usize,
-    cells: &[u16],
-    entry: Entry,
-    budget: u32,
-) -> Offered
-    requires from_le_to { entry.from ≤ entry.to }
-    requires to_in_bounds { entry.to ≤ length cells.now }
-    ensures { offered result tx.new rx.new chain.new ≡ offer_of board (moment bridge tx.old rx.old chain.old oldest) entry.slot entry.reading (take (entry.to - entry.from) (drop entry.from cells.now)) budget }
-{
-    let slot = entry.slot;
-    let reading = entry.reading;
-    let from = entry.from;
-    let to = entry.to;
-    let words = &cells[from..to];
-    offer(
-        board, bridge, tx, rx, chain, oldest, slot, reading, words, budget,
-    )
 }
 
 // After the last call-up: ticks until all is sent.
@@ -155,35 +125,17 @@ fn send(
     ensures { shifted result tx.new rx.new chain.new ≡ shift_from [] (shifting board (moment bridge tx.old rx.old chain.old oldest) Taken taken ticks) budget }
 {
     let sent = chain::wait(bridge, tx, rx, chain, oldest, Goal::Sent, budget - ticks);
-    let left = sent.bridge;
     Shifted {
-        board: board,
-        bridge: left,
+        board,
+        bridge: sent.bridge,
         oldest: sent.oldest,
-        verdict: Verdict::Taken,
-        taken: taken,
+        verdict: Ok(()),
+        taken,
         ticks: ticks + sent.ticks,
     }
 }
 
-// A call-up that is refused stops the shift.
-fn stopped(offered: Offered, taken: usize, ticks: u32) -> Shifted
-    ensures { result ≡ record { board = offered.board; bridge = offered.bridge; oldest = offered.oldest; verdict = offered.verdict; taken = taken; ticks = ticks } }
-{
-    let board = offered.board;
-    let bridge = offered.bridge;
-    let verdict = offered.verdict;
-    Shifted {
-        board: board,
-        bridge: bridge,
-        oldest: offered.oldest,
-        verdict: verdict,
-        taken: taken,
-        ticks: ticks,
-    }
-}
-
-// The call-ups of a list, in order; then all that is taken is sent.
+// The call-ups of a list, in order; one that is refused stops the shift. Then all that is taken is sent.
 fn run(
     board: Board,
     bridge: Bridge,
@@ -205,18 +157,34 @@ fn run(
     while at < cells.len() {
         let entry = entry_at(cells, at);
         let left = budget - ticks;
-        let offered = offer_entry(shown, b, tx, rx, chain, place, cells, entry, left);
-        ticks = ticks + offered.ticks;
-        let judged = offered.verdict;
-        if verdict::is_taken(judged) {
-            shown = offered.board;
-            b = offered.bridge;
-            place = offered.oldest;
-            taken = taken + 1;
-            at = entry.next;
-        } else {
-            return stopped(offered, taken, ticks);
+        let offered = offer(
+            shown,
+            b,
+            tx,
+            rx,
+            chain,
+            place,
+            entry.slot,
+            entry.reading,
+            entry.words,
+            left,
+        );
+        ticks += offered.ticks;
+        if offered.verdict.is_err() {
+            return Shifted {
+                board: offered.board,
+                bridge: offered.bridge,
+                oldest: offered.oldest,
+                verdict: offered.verdict,
+                taken,
+                ticks,
+            };
         }
+        shown = offered.board;
+        b = offered.bridge;
+        place = offered.oldest;
+        taken += 1;
+        at = entry.next;
     }
     send(shown, b, tx, rx, chain, place, taken, ticks, budget)
 }
@@ -234,13 +202,13 @@ pub fn shift(
 ) -> Shifted
     ensures { shifted result tx.new rx.new chain.new ≡ shift_of board (moment bridge tx.old rx.old chain.old oldest) cells.now budget }
 {
-    let first = verdict::judge(bridge, tx.len(), rx.len(), 0, 1);
-    if verdict::is_broken(first) {
+    let verdict = verdict::judge(bridge, tx.len(), rx.len(), 0, 1);
+    if verdict::is_broken(verdict) {
         return Shifted {
-            board: board,
-            bridge: bridge,
-            oldest: oldest,
-            verdict: first,
+            board,
+            bridge,
+            oldest,
+            verdict,
             taken: 0,
             ticks: 0,
         };

@@ -21,7 +21,7 @@ fn written(bridge: Bridge, address: u16, value: u16, tx: &mut [u16], rx: &mut [u
     let start = command::crc_start(registers::is_xmodem(regs));
     let words: [u16; 1] = [value];
     let mut frame: [u16; 3] = [0; 3];
-    frames::write(
+    let _ = frames::write(
         layout,
         start,
         Order::RegWrCrc { address: address },

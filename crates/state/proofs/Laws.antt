@@ -1,10 +1,16 @@
--- Power-up by its parts, as the proofs of src/lib.rt ask it. Assumes nothing.
-use mathlib.Core.Path.{◌≡◌, ap}
+-- Power-up with bad OTP, as the proof of src/lib.rt asks it. Assumes nothing.
+use mathlib.Core.Path.{◌≡◌, refl}
 use Rattle.layout.specs.declared.Layout.{Layout}
-use Rattle.registers.specs.Registers.{power_up_control}
-use Rattle.registers.specs.declared.Control.{Control}
-use Rattle.state.specs.Power.{powered_up, bad_control, power_up_bad_in}
+use Rattle.state.specs.Power.{bad_control, power_up_in, power_up_bad_in}
+use Rattle.state.specs.declared.Bridge.{Bridge}
 
-pub to_bad : (layout : Layout) (c : Control) → c ≡ power_up_control layout → powered_up (bad_control c) ≡ power_up_bad_in layout
-unfolding power_up_bad_in
-to_bad layout c e = ap (λ (d : Control). powered_up (bad_control d)) e
+pub to_bad : (layout : Layout) (b : Bridge) → b ≡ power_up_in layout
+    → record {
+      control = bad_control b.control;
+      sending = b.sending;
+      receiving = b.receiving;
+      frame = b.frame;
+      clock = b.clock;
+    } ≡ power_up_bad_in layout
+unfolding power_up_in power_up_bad_in
+to_bad layout b e = rw e refl

@@ -1,5 +1,5 @@
 -- The power-up state (01 What the bridge is: "one named value of the state's type"). Assumes nothing.
-use Rattle.std.specs.Prelude.{Bool, true, false, ℕ, replicate}
+use Rattle.std.specs.Prelude.{true, false, replicate}
 use Rattle.command.specs.Layout.{registers_end}
 use Rattle.layout.specs.declared.Layout.{Layout}
 use Rattle.layout.specs.declared.Layout.TheVariants.{Ours}

@@ -1,5 +1,5 @@
 -- The queue of eight places (01 The line, "The queue has eight places (ours)"; 02 item 3). Assumes nothing.
-use Rattle.std.specs.Prelude.{Bool, false, not, ◌&&◌, ◌||◌, List, [], ◌∷◌, ℕ, ◌+◌, ◌-◌, ltb, eqb, take, drop, get_or, set}
+use Rattle.std.specs.Prelude.{Bool, false, not, ◌&&◌, ◌||◌, List, [], ◌∷◌, ℕ, ◌+◌, ◌-◌, ltb, eqb, take, drop, get_or, set, Option, None, Some}
 use Rattle.base.specs.Pick.{pick}
 use Rattle.crc16.specs.Crc.{start}
 use Rattle.state.specs.declared.Place.{Place}
@@ -119,6 +119,14 @@ first_unread (p ∷ ps) = pick (ltb 0 p.words && not p.read) 0 (first_unread ps 
 
 unfoldable pub claimed : Queue → ℕ
 claimed q = first_unread (take q.begun q.places)
+
+-- that number, where there is one
+unfoldable pub oldest_unread : Queue → Option ℕ
+oldest_unread q = pick (ltb (claimed q) q.begun) (Some (claimed q)) None
+
+-- the youngest command that has begun, where there is one
+unfoldable pub youngest_begun : Queue → Option Place
+youngest_begun q = pick (ltb 0 q.begun) (Some (last_begun q)) None
 
 -- "it is freed when sent and read back, or when sent if it has no words"
 abbrev pub is_done : Place → Bool

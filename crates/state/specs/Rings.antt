@@ -1,8 +1,6 @@
 -- The two stores as rings (01 What the bridge is, "Both stores are rings"). Assumes nothing.
-use Rattle.std.specs.Prelude.{List, ℕ, ◌+◌, ◌-◌, ◌%◌, set, get_or}
+use Rattle.std.specs.Prelude.{List, ℕ, ◌+◌, ◌-◌, ◌%◌, set, get_or, Option, None, Some}
 use Rattle.state.specs.declared.Ring.{Ring}
-use Rattle.state.specs.declared.Store.{Store}
-use Rattle.state.specs.declared.Store.TheVariants.{Keep, Put}
 
 -- "(TX 512, RX 256 (ours))"
 abbrev pub tx_size : ℕ
@@ -33,10 +31,10 @@ abbrev pub oldest : List ℕ → Ring → ℕ
 oldest cells r = get_or cells r.head 0
 
 -- what an event writes of a store: "no other cell is ever written"
-unfoldable pub written : ℕ → List ℕ → Ring → Store → List ℕ
-written size cells r Keep = cells
-written size cells r (Put w) = set cells (cell_of size r) w
+unfoldable pub written : ℕ → List ℕ → Ring → Option ℕ → List ℕ
+written size cells r None = cells
+written size cells r (Some w) = set cells (cell_of size r) w
 
-unfoldable pub ring_after : Ring → Store → Ring
-ring_after r Keep = r
-ring_after r (Put w) = pushed r
+unfoldable pub ring_after : Ring → Option ℕ → Ring
+ring_after r None = r
+ring_after r (Some w) = pushed r

@@ -105,6 +105,7 @@ pub enum Phase {
 }
 
 // How far an open frame has come: what `Phase::Collecting` keeps beside the command.
+// Stays: the C cells and the theorems' specs name `Collecting`'s own fields; this is what the functions hand on as one value.
 #[derive(Clone, Copy)]
 pub struct Progress {
     pub got: u16,
@@ -115,6 +116,7 @@ pub struct Progress {
 }
 
 // What a forward's command word says: `Command::Forward`.
+// Stays: `Command::Forward`'s fields are named by the theorems of the decoder (crate command); this is what the functions hand on as one value.
 #[derive(Clone, Copy)]
 pub struct Fwd {
     pub crc: bool,
@@ -141,6 +143,8 @@ pub struct Clock {
     pub sin: bool,
 }
 
+// Stays: no ghost field holds the record rules, since a caller may lend a broken record, which `step` refuses with note 2 (theorem Demand 1,
+// `broken_record`): `QueueFit`, `SendFit` and `HostFit` stand in the contracts of the functions within.
 #[derive(Clone, Copy)]
 pub struct Bridge {
     pub control: Control,
@@ -148,13 +152,6 @@ pub struct Bridge {
     pub receiving: Receiving,
     pub frame: Frame,
     pub clock: Clock,
-}
-
-// What an event writes of a store: nothing, or a word to the ring's next cell.
-#[derive(Clone, Copy)]
-pub enum Store {
-    Keep,
-    Put(u16),
 }
 
 // What a frame does to the sending side, after the word that it stores: queue a command, take words back, a transmit clear, a soft reset.
@@ -174,25 +171,25 @@ pub struct Returned {
     pub differs: bool,
 }
 
-// The notes of 01, 0 to 15.
-#[derive(Clone, Copy)]
+// The notes of 01, by its numbers.
+#[derive(Clone, Copy, PartialEq, Eq)]
 pub enum Note {
-    Done,
-    WrongStores,
-    BrokenRecord,
-    MalformedWord,
-    Discarded,
-    Blocked,
-    CrcRefused,
-    CrcWrong,
-    TxFull,
-    QueueFull,
-    LineBusy,
-    ResetRefused,
-    CutShort,
-    TxEmpty,
-    RxFull,
-    RxEmpty,
+    Done = 0,
+    WrongStores = 1,
+    BrokenRecord = 2,
+    MalformedWord = 3,
+    Discarded = 4,
+    Blocked = 5,
+    CrcRefused = 6,
+    CrcWrong = 7,
+    TxFull = 8,
+    QueueFull = 9,
+    LineBusy = 10,
+    ResetRefused = 11,
+    CutShort = 12,
+    TxEmpty = 13,
+    RxFull = 14,
+    RxEmpty = 15,
 }
 
 impl Place {
@@ -267,28 +264,19 @@ impl Bridge {
     pub fn good_in(layout: Layout) -> Bridge
         ensures { result ≡ power_up_in layout }
     {
-        let control = registers::power_up_control(layout);
-        let mut b = Bridge::POWER_UP;
-        b.control = control;
-        b
+        Bridge {
+            control: registers::power_up_control(layout),
+            ..Bridge::POWER_UP
+        }
     }
 
     pub fn bad_in(layout: Layout) -> Bridge
         ensures { result ≡ power_up_bad_in layout }
     {
-        let good = registers::power_up_control(layout);
-        let mut flags = good.flags;
-        flags.otp = true;
-        let regs = good.regs;
-        let control = Control {
-            mode: Mode::Init,
-            drdy: good.drdy,
-            flags: flags,
-            regs: regs,
-        };
-        let mut b = Bridge::POWER_UP;
-        b.control = control;
-        b
+        let mut bridge = Bridge::good_in(layout);
+        bridge.control.mode = Mode::Init;
+        bridge.control.flags.otp = true;
+        bridge
     }
 }
 
@@ -296,24 +284,7 @@ impl Bridge {
 pub fn number(note: Note) -> u16
     ensures { result ≡ note_number note }
 {
-    match note {
-        Note::Done => 0,
-        Note::WrongStores => 1,
-        Note::BrokenRecord => 2,
-        Note::MalformedWord => 3,
-        Note::Discarded => 4,
-        Note::Blocked => 5,
-        Note::CrcRefused => 6,
-        Note::CrcWrong => 7,
-        Note::TxFull => 8,
-        Note::QueueFull => 9,
-        Note::LineBusy => 10,
-        Note::ResetRefused => 11,
-        Note::CutShort => 12,
-        Note::TxEmpty => 13,
-        Note::RxFull => 14,
-        Note::RxEmpty => 15,
-    }
+    note as u16
 }
 
 // The data words between a frame's command word and its CRC word.
@@ -321,26 +292,9 @@ pub fn data_words(command: Command) -> u16
     ensures { result ≡ data_words command }
 {
     match command {
-        Command::Filler => 0,
-        Command::Malformed => 0,
-        Command::Forward {
-            crc: _,
-            words,
-            ends: _,
-            reads: _,
-        } => words,
-        Command::DataRead { crc: _, words: _ } => 0,
-        Command::RegisterWrite {
-            crc: _,
-            address: _,
-            count,
-        } => count,
-        Command::RegisterRead {
-            crc: _,
-            address: _,
-            count: _,
-        } => 0,
-        Command::SoftReset => 0,
+        Command::Forward { words, .. } => words,
+        Command::RegisterWrite { count, .. } => count,
+        _ => 0,
     }
 }
 
@@ -354,26 +308,5 @@ pub fn is_due(command: Command, got: u16) -> bool
 pub fn is_forward(command: Command) -> bool
     ensures { result ≡ is_forward command }
 {
-    match command {
-        Command::Filler => false,
-        Command::Malformed => false,
-        Command::Forward {
-            crc: _,
-            words: _,
-            ends: _,
-            reads: _,
-        } => true,
-        Command::DataRead { crc: _, words: _ } => false,
-        Command::RegisterWrite {
-            crc: _,
-            address: _,
-            count: _,
-        } => false,
-        Command::RegisterRead {
-            crc: _,
-            address: _,
-            count: _,
-        } => false,
-        Command::SoftReset => false,
-    }
+    matches!(command, Command::Forward { .. })
 }

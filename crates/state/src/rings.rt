@@ -9,10 +9,7 @@ use crate::Ring;
 pub fn less_one(n: u16) -> u16
     ensures { result ≡ n - 1 }
 {
-    if 0 < n {
-        return n - 1;
-    }
-    0
+    n.saturating_sub(1)
 }
 
 // "Reading moves head on": the oldest word is taken from a ring of `size` cells.

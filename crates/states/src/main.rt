@@ -4,135 +4,73 @@
 
 #![tactic(auto)]
 
+use device::Device;
 use records::{COLUMNS, Fields};
-use script::Record;
 use state::Bridge;
 use std::io;
 use std::io::Read;
 
-// Whether there may be more of the script.
-#[derive(Clone, Copy)]
-struct Went {
-    bridge: Bridge,
-    on: bool,
-}
-
-fn made(bridge: Bridge, on: bool) -> Went {
-    Went {
-        bridge: bridge,
-        on: on,
-    }
-}
-
-fn print(rt: &impl Print, text: &[u8]) -> io::Result<()> {
-    rt.write_all(text)
-}
-
-fn tell(rt: &impl Print, column: usize, value: u16) -> io::Result<()> {
-    print!(rt; " {column}={value}")
-}
-
+// The columns that changed, and the line's end.
 fn tell_changed(rt: &impl Print, before: &Fields, after: &Fields) -> io::Result<()> {
-    for i in 0..COLUMNS {
-        if before[i] != after[i] {
-            tell(rt, i, after[i])?;
+    for (column, (old, new)) in before.iter().zip(after.iter()).enumerate() {
+        if old != new {
+            print!(rt; " {column}={new}")?;
         }
     }
-    Ok(())
+    println!(rt)
 }
 
-// The bench's line without its end, and what changed.
-fn show(rt: &impl Print, line: script::Line, before: Bridge, after: Bridge) -> io::Result<()> {
-    let end = line.length;
-    let bytes = line.bytes;
-    let text: &[u8] = &bytes;
-    if 0 < end {
-        let last = end - 1;
-        if last <= text.len() {
-            print(rt, &text[0..last])?;
-        }
-    }
-    tell_changed(rt, &records::fields(before), &records::fields(after))?;
-    print(rt, b"\n")
-}
-
-fn one(
-    rt: &impl Print,
-    start: Bridge,
-    tx: &mut [u16],
-    rx: &mut [u16],
-    kind: u8,
-    value: u16,
-) -> io::Result<Went> {
-    let Record::Good(event) = script::read(kind, value) else {
-        print(rt, b"bad record\n")?;
-        return Ok(made(start, false));
+// An event's line as the bench prints it, and what the event changed; and whether there was one.
+fn one(rt: &impl Print, device: &mut Device, kind: u8, value: u16) -> io::Result<bool> {
+    let Some(event) = script::read(kind, value) else {
+        println!(rt; "bad record")?;
+        return Ok(false);
     };
-    let answer = bridge::step(start, tx, rx, event);
-    let note = answer.note;
-    let after = answer.state;
-    show(
-        rt,
-        script::printed(kind, value, state::number(note), answer.sdo, answer.sout),
-        start,
-        after,
-    )?;
-    Ok(made(after, true))
+    let before = records::fields(device.bridge);
+    let answer = device.step(event);
+    let note = state::number(answer.note);
+    let line = script::printed(kind, value, note, answer.sdo, answer.sout);
+    if let Some([text @ .., b'\n']) = line.bytes.get(..line.length) {
+        rt.write_all(text)?;
+    }
+    tell_changed(rt, &before, &records::fields(device.bridge))?;
+    Ok(true)
 }
 
-fn next(
-    rt: &impl Print,
-    input: &mut impl Read,
-    start: Bridge,
-    tx: &mut [u16],
-    rx: &mut [u16],
-) -> io::Result<Went> {
-    let mut record = [0u8; 3];
+// Whether there may be more of the script.
+fn next(rt: &impl Print, input: &mut impl Read, device: &mut Device) -> io::Result<bool> {
+    let mut record = [0; 3];
     let n = console::read_full(input, &mut record)?;
-    if n == 3 {
-        return one(
-            rt,
-            start,
-            tx,
-            rx,
-            record[0],
-            script::value(record[1], record[2]),
-        );
+    if n == 0 {
+        return Ok(false);
     }
-    if 0 < n {
-        print(rt, b"bad record\n")?;
+    if n < record.len() {
+        println!(rt; "bad record")?;
+        return Ok(false);
     }
-    Ok(made(start, false))
+    let [kind, high, low] = record;
+    one(rt, device, kind, script::value(high, low))
 }
 
-// A proved loop has to end, and nothing says that a script does: it counts up to a number of records that no script has.
 fn walk(rt: &impl Print, input: &mut impl Read) -> io::Result<()> {
-    let mut tx = [0u16; 512];
-    let mut rx = [0u16; 256];
-    let mut bridge = Bridge::good();
+    let mut device = Device::new(Bridge::good());
+    print!(rt; "start")?;
+    tell_changed(rt, &[0; COLUMNS], &records::fields(device.bridge))?;
+    // A proved loop has to end, and nothing says that a script does: it counts up to a number of records that no script has.
     for _ in 0..u64::MAX {
-        let went = next(rt, input, bridge, &mut tx, &mut rx)?;
-        if !went.on {
-            return Ok(());
+        if !next(rt, input, &mut device)? {
+            break;
         }
-        bridge = went.bridge;
     }
     Ok(())
-}
-
-fn tell_start(rt: &impl Print) -> io::Result<()> {
-    print(rt, b"start")?;
-    tell_changed(rt, &[0u16; COLUMNS], &records::fields(Bridge::good()))?;
-    print(rt, b"\n")
 }
 
 fn main(rt: HostRuntime) -> io::Result<()> {
     let mut input = rt.stdin();
-    let mut head = [0u8; 5];
+    let mut head = [0; 5];
     let n = console::read_full(&mut input, &mut head)?;
-    if script::head(&head[0..n]) {
-        tell_start(&rt)?;
+    if script::head(&head[..n]) {
         return walk(&rt, &mut input);
     }
-    print(&rt, b"bad script\n")
+    println!(rt; "bad script")
 }

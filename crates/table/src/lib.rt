@@ -4,151 +4,140 @@
 
 ghost use Rattle.std.specs.Prelude.{◌+◌, ◌-◌, ◌/◌, ◌≤◌};
 
-use records::{COLUMNS, Fields};
+use records::Fields;
 
 // Longer than the table, and zeros behind it.
-pub type Text = [u8; 65536];
-
-// No number of sixteen bits.
-const NONE: u32 = 65536;
-
-pub fn byte(text: &Text, at: usize) -> u8 {
-    text[at % 65536]
+// Stays: places in one text, and no slices of its lines, since a word that has no mark before its line's end goes on behind it, and behind the last byte with the first.
+#[derive(Drop)]
+pub struct Text {
+    pub bytes: [u8; 65536],
 }
 
 fn is_mark(byte: u8) -> bool {
-    (byte < b'*') | (b'z' < byte) | ((b'9' < byte) & (byte < b'A'))
+    !matches!(byte, b'*'..=b'9' | b'A'..=b'z')
 }
 
-pub fn find(text: &Text, from: usize, to: usize, mark: u8) -> usize
-    ensures lower_bound { from ≤ result }
-    ensures upper_bound { result ≤ from + (to - from) }
-{
-    let mut i = from;
-    while i < to {
-        if byte(text, i) == mark {
-            return i;
+impl Text {
+    pub fn byte(&self, at: usize) -> u8 {
+        self.bytes[at % 65536]
+    }
+
+    // The byte that stands so far behind a mark.
+    fn behind(&self, at: usize, far: usize) -> u8 {
+        self.byte(at.wrapping_add(far))
+    }
+
+    pub fn find(&self, from: usize, to: usize, mark: u8) -> usize
+        ensures lower_bound { from ≤ result }
+        ensures upper_bound { result ≤ from + (to - from) }
+    {
+        for i in from..to {
+            if self.byte(i) == mark {
+                return i;
+            }
         }
-        i = i + 1;
+        from.max(to)
     }
-    i
-}
 
-// The last byte counts as one.
-pub fn mark_after(text: &Text, at: usize) -> usize
-    requires { at ≤ 65535 }
-    ensures at_bound { at + 1 ≤ result + at / 65535 }
-    ensures upper_bound { result ≤ 65535 }
-{
-    let mut i = at;
-    while i < 65535 {
-        i = i + 1;
-        if is_mark(byte(text, i)) {
-            return i;
+    // The last byte counts as one.
+    pub fn mark_after(&self, at: usize) -> usize
+        requires { at ≤ 65535 }
+        ensures at_bound { at + 1 ≤ result + at / 65535 }
+        ensures upper_bound { result ≤ 65535 }
+    {
+        for i in at + 1..65536 {
+            if is_mark(self.byte(i)) {
+                return i;
+            }
+        }
+        65535
+    }
+
+    // A star stands for any byte: `place*.words` names a column of each place. No name has more than 62 bytes.
+    fn is_named(&self, name: usize, pattern: usize) -> bool {
+        for k in 1..64 {
+            let a = self.behind(name, k);
+            let b = self.behind(pattern, k);
+            if is_mark(a) || is_mark(b) {
+                return is_mark(a) && is_mark(b);
+            }
+            if a != b && b != b'*' {
+                return false;
+            }
+        }
+        false
+    }
+
+    // A number of no more than 62 digits, none of them behind the first that takes it past sixteen bits.
+    fn digits(&self, at: usize) -> Option<u32> {
+        let mut value = 0;
+        for k in 1..64 {
+            let byte = self.behind(at, k);
+            if is_mark(byte) || 65535 < value {
+                return Some(value);
+            }
+            if !byte.is_ascii_digit() {
+                return None;
+            }
+            value = value * 10 + u32::from(byte - b'0');
+        }
+        None
+    }
+
+    fn named(&self, name: usize) -> Option<u32> {
+        let mut at = self.find(0, 65535, b'(');
+        let stop = self.find(at, 65535, b')');
+        while at < stop {
+            let equals = self.mark_after(at);
+            if self.is_named(at, name) {
+                return self.digits(equals);
+            }
+            at = self.mark_after(equals);
+        }
+        None
+    }
+
+    fn value(&self, at: usize) -> Option<u32> {
+        if is_mark(self.behind(at, 1)) {
+            return None;
+        }
+        match self.digits(at) {
+            Some(number) if number < 65536 => Some(number),
+            _ => self.named(at),
         }
     }
-    i
-}
 
-// A star stands for any byte: `place*.words` names a column of each place.
-fn is_over(a: u8, b: u8) -> bool {
-    is_mark(a) | is_mark(b) | ((a != b) & (b != b'*'))
-}
-
-fn is_named(text: &Text, name: usize, pattern: usize) -> bool {
-    let mut k: usize = 1;
-    while k < 64 {
-        let a = byte(text, std::num::wrapping_add_usize(name, k));
-        let b = byte(text, std::num::wrapping_add_usize(pattern, k));
-        if is_over(a, b) {
-            return is_mark(a) & is_mark(b);
+    // Each column of this name, and whether there is one.
+    fn put_named(&self, fields: &mut Fields, name: usize, value: u16) -> bool {
+        let mut found = false;
+        let mut at = self.find(0, 65535, b'{');
+        let stop = self.find(at, 65535, b'}');
+        for field in fields.iter_mut() {
+            if stop <= at {
+                break;
+            }
+            if self.is_named(at, name) {
+                *field = value;
+                found = true;
+            }
+            at = self.mark_after(at);
         }
-        k = k + 1;
+        found
     }
-    false
-}
 
-fn extended(value: u32, byte: u8) -> u32 {
-    match byte {
-        b'0'..=b'9' => (value % NONE) * 10 + (byte - b'0') as u32,
-        _ => NONE,
-    }
-}
-
-fn digits(text: &Text, at: usize) -> u32 {
-    let mut value: u32 = 0;
-    let mut k: usize = 1;
-    while k < 64 {
-        let b = byte(text, std::num::wrapping_add_usize(at, k));
-        if is_mark(b) | (NONE <= value) {
-            return value;
+    // Whether each could be read.
+    pub fn change(&self, fields: &mut Fields, from: usize, to: usize) -> bool
+        requires { to ≤ 65535 }
+    {
+        let mut read = true;
+        let mut at = from;
+        while at < to {
+            let equals = self.mark_after(at);
+            let number = self.value(equals);
+            let found = self.put_named(fields, at, (number.unwrap_or(0) % 65536) as u16);
+            read = read && found && number.is_some_and(|n| n < 65536);
+            at = self.mark_after(equals);
         }
-        value = extended(value, b);
-        k = k + 1;
+        read
     }
-    NONE
-}
-
-fn named(text: &Text, name: usize) -> u32 {
-    let mut at = find(text, 0, 65535, b'(');
-    let stop = find(text, at, 65535, b')');
-    while at < stop {
-        let equals = mark_after(text, at);
-        if is_named(text, at, name) {
-            return digits(text, equals);
-        }
-        at = mark_after(text, equals);
-    }
-    NONE
-}
-
-fn value(text: &Text, at: usize) -> u32 {
-    if is_mark(byte(text, std::num::wrapping_add_usize(at, 1))) {
-        return NONE;
-    }
-    let number = digits(text, at);
-    if number < NONE {
-        return number;
-    }
-    named(text, at)
-}
-
-fn put(fields: &mut Fields, column: usize, value: u16, here: bool) -> bool {
-    if !here {
-        return false;
-    }
-    if column < COLUMNS {
-        fields[column] = value;
-        return true;
-    }
-    false
-}
-
-fn put_named(fields: &mut Fields, text: &Text, name: usize, value: u16) -> bool {
-    let mut found = false;
-    let mut column: usize = 0;
-    let mut at = find(text, 0, 65535, b'{');
-    let stop = find(text, at, 65535, b'}');
-    while at < stop {
-        found = found | put(fields, column, value, is_named(text, at, name));
-        column = column + 1;
-        at = mark_after(text, at);
-    }
-    found
-}
-
-// Whether each could be read.
-pub fn change(fields: &mut Fields, text: &Text, from: usize, to: usize) -> bool
-    requires { to ≤ 65535 }
-{
-    let mut read = true;
-    let mut at = from;
-    while at < to {
-        let equals = mark_after(text, at);
-        let number = value(text, equals);
-        let found = put_named(fields, text, at, (number % NONE) as u16);
-        read = read & found & (number < NONE);
-        at = mark_after(text, equals);
-    }
-    read
 }

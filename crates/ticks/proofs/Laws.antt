@@ -1,5 +1,7 @@
 -- How the halves of a tick make a tick, and laws as the functions' proofs ask them. Assumes nothing.
-use mathlib.Core.Path.{◌≡◌, sym, ◌∙◌, ap, subst}
+use Rattle.std.specs.Prelude.{None}
+use Rattle.std.proofs.Math.Bool.{beq}
+use mathlib.Core.Path.{◌≡◌, refl, sym, ◌∙◌, ap, subst}
 use mathlib.Core.Bool.{Bool, true, false, not, ◌||◌}
 use Prim.Native.Nat.{ℕ}
 use lib.ListN.{length, length-set}
@@ -17,10 +19,9 @@ use Rattle.registers.specs.declared.Flag.TheVariants.{LineCrc}
 use Rattle.registers.specs.declared.Flags.{Flags}
 use Rattle.sender.specs.declared.Sent.{Sent}
 use Rattle.base.specs.Pick.{pick_true, pick_keeps}
-use Rattle.ticks.specs.Ticks.{blocked_in, same, watched, starved_flags, flags_sent, phase_after, control_ticked, tick_note, tick_ends, tick_hears, ticked}
+use Rattle.ticks.specs.Ticks.{quietly, blocked_in, same, watched, starved_flags, flags_sent, phase_after, control_ticked, tick_note, tick_ends, tick_hears, ticked}
 use Rattle.state.specs.declared.Queue.{Queue}
 use Rattle.state.specs.declared.Sending.{Sending}
-use Rattle.state.specs.declared.Store.TheVariants.{Keep}
 use Rattle.next.specs.Next.{may_start, choose}
 use Rattle.sender.specs.Sender.{queue_sent, advanced, sent_by, tick_sender}
 use Rattle.next.specs.declared.Next.{Next}
@@ -43,13 +44,12 @@ pub to_collecting : (p : Phase) (command : Command) (got sum mine : ℕ) (releas
 unfolding blocked_in
 to_collecting p command got sum mine released blocked t e h = rw (e, h)
 
-pub same_true : (a b : Bool) → a ≡ true → b ≡ same a b
+pub to_same : (a b : Bool) → beq a b ≡ same a b
 unfolding same
-same_true a b e = rw e
-
-pub same_false : (a b : Bool) → a ≡ false → not b ≡ same a b
-unfolding same
-same_false a b e = rw e
+to_same true true = refl
+to_same true false = refl
+to_same false true = refl
+to_same false false = refl
 
 pub to_differs : (f g x : Flags) (s : Sent) → g ≡ starved_flags f s.starved → s.differs ≡ true → x ≡ raised g LineCrc → x ≡ flags_sent f s
 unfolding flags_sent
@@ -81,27 +81,19 @@ pub tick_fit : (s : Sending) (may : Bool) (w : ℕ) (t : Sent) → t ≡ tick_se
 tick_fit s may w t e f h = subst (λ (u : Sent). QueueFit u.sending.queue) (sym e) (sent_fit s may w f h)
 
 -- the whole tick, by the parts that its functions told
-pub to_ends : (b : Bridge) (s : Sent) (t : Taken) (sin : Bool) (control : Control) (phase : Phase) (clock : Clock) (note : Note)
+pub to_ends : (b : Bridge) (s : Sent) (t : Taken) (sin : Bool) (control : Control) (phase : Phase) (clock : Clock) (note : Note) (q : Did)
     → control ≡ control_ticked b.control t → phase ≡ phase_after b.frame.phase s.starved → clock ≡ watched b.clock s.started sin
     → note ≡ tick_note s.starved t.full
-    → ◌≡◌ {A = Did}
-    (record {
-      bridge = record {
-        control = control;
-        sending = record { tx = s.sending.tx; queue = t.queue; sender = s.sending.sender };
-        receiving = t.receiving;
-        frame = record { phase = phase; held = b.frame.held; xmodem = b.frame.xmodem };
-        clock = clock;
-      };
-      sdo = no_answer;
-      sout = s.sout;
-      note = note;
-      tx = Keep;
-      rx = t.store;
+    → q ≡ quietly (record {
+      control = control;
+      sending = record { tx = s.sending.tx; queue = t.queue; sender = s.sending.sender };
+      receiving = t.receiving;
+      frame = record { phase = phase; held = b.frame.held; xmodem = b.frame.xmodem };
+      clock = clock;
     })
-    (tick_ends b s t sin)
+    → ◌≡◌ {A = Did} (record { bridge = q.bridge; sdo = q.sdo; sout = s.sout; note = note; tx = q.tx; rx = t.store }) (tick_ends b s t sin)
 unfolding tick_ends
-to_ends b s t sin control phase clock note e f g h = rw (e, f, g, h)
+to_ends b s t sin control phase clock note q e f g h k = rw (k, e, f, g, h)
 
 pub to_ticked : (b : Bridge) (sin may : Bool) (w : ℕ) (s : Sent) (f : Flags) (t : Taken) (x : Did)
     → may ≡ may_start b.control → s ≡ tick_sender b.sending may w → f ≡ flags_sent b.control.flags s

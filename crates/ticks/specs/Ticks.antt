@@ -1,5 +1,5 @@
 -- What a line tick does (01 The line; Notes 13 and 14). A rule sees the state and the oldest word of TX. Assumes nothing.
-use Rattle.std.specs.Prelude.{Bool, true, false, not, ◌&&◌, ◌||◌, ℕ}
+use Rattle.std.specs.Prelude.{Bool, true, false, not, ◌&&◌, ◌||◌, ℕ, None}
 use Rattle.base.specs.Pick.{pick}
 use Rattle.registers.specs.Raising.{raised}
 use Rattle.registers.specs.declared.Control.{Control}
@@ -12,7 +12,6 @@ use Rattle.state.specs.declared.Note.{Note}
 use Rattle.state.specs.declared.Note.TheVariants.{Done, TxEmpty, RxFull}
 use Rattle.state.specs.declared.Phase.{Phase}
 use Rattle.state.specs.declared.Phase.TheVariants.{Idle, Collecting, Answering, Discarding}
-use Rattle.state.specs.declared.Store.TheVariants.{Keep}
 use Rattle.next.specs.Next.{may_start}
 use Rattle.sender.specs.Sender.{tick_sender}
 use Rattle.sender.specs.declared.Sent.{Sent}
@@ -23,7 +22,7 @@ use Rattle.ticks.specs.declared.Did.{Did}
 
 -- a state, with nothing on either line
 abbrev pub quietly : Bridge → Did
-quietly b = record { bridge = b; sdo = no_answer; sout = true; note = Done; tx = Keep; rx = Keep }
+quietly b = record { bridge = b; sdo = no_answer; sout = true; note = Done; tx = None; rx = None }
 
 -- "while a blocking flag is or was up during this frame"
 unfoldable pub blocked_in : Phase → Phase
@@ -82,7 +81,7 @@ tick_ends b s t sin = record {
   sdo = no_answer;
   sout = s.sout;
   note = tick_note s.starved t.full;
-  tx = Keep;
+  tx = None;
   rx = t.store;
 }
 

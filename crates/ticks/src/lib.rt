@@ -6,10 +6,11 @@ ghost use Rattle.std.specs.Prelude.{◌≡◌};
 ghost use Rattle.state.specs.Facts.{HostFit};
 ghost use Rattle.ticks.specs.Ticks.{quietly as quietly_of, blocked_in, same as same_of, mark_after, watched as watched_of, flags_sent, starved_flags, control_ticked, tick_note, phase_after, tick_ends, ticked as ticked_of};
 
+use plan::NO_ANSWER;
 use reader::Taken;
 use registers::{Control, Flag, Flags};
 use sender::Sent;
-use state::{Bridge, Clock, Frame, Note, Phase, Sending, Store};
+use state::{Bridge, Clock, Frame, Note, Phase, Sending};
 
 // What an event leaves and says, and the words that it stores.
 #[derive(Clone, Copy)]
@@ -18,8 +19,8 @@ pub struct Did {
     pub sdo: u16,
     pub sout: bool,
     pub note: Note,
-    pub tx: Store,
-    pub rx: Store,
+    pub tx: Option<u16>,
+    pub rx: Option<u16>,
 }
 
 // A state, with nothing on either line.
@@ -27,12 +28,12 @@ pub fn quietly(bridge: Bridge) -> Did
     ensures { result ≡ quietly_of bridge }
 {
     Did {
-        bridge: bridge,
-        sdo: 0xFFFF,
+        bridge,
+        sdo: NO_ANSWER,
         sout: true,
         note: Note::Done,
-        tx: Store::Keep,
-        rx: Store::Keep,
+        tx: None,
+        rx: None,
     }
 }
 
@@ -49,38 +50,27 @@ fn blocked(phase: Phase) -> Phase
             released,
             blocked,
         } => Phase::Collecting {
-            command: command,
-            got: got,
-            crc: crc,
-            mine: mine,
-            released: released,
+            command,
+            got,
+            crc,
+            mine,
+            released,
             blocked: state::is_forward(command) | blocked,
         },
-        Phase::Idle => Phase::Idle,
-        Phase::Answering { reply, crc } => Phase::Answering {
-            reply: reply,
-            crc: crc,
-        },
-        Phase::Discarding => Phase::Discarding,
+        Phase::Idle | Phase::Answering { .. } | Phase::Discarding => phase,
     }
 }
 
 fn phase_after(phase: Phase, starved: bool) -> Phase
     ensures { result ≡ phase_after phase starved }
 {
-    if starved {
-        return blocked(phase);
-    }
-    phase
+    if starved { blocked(phase) } else { phase }
 }
 
 pub fn same(a: bool, b: bool) -> bool
     ensures { result ≡ same_of a b }
 {
-    if a {
-        return b;
-    }
-    !b
+    a == b
 }
 
 // A start bit marks the last reading where the SIN watch is off.
@@ -98,21 +88,22 @@ pub fn watched(clock: Clock, started: bool, sin: bool) -> Clock
     ensures { result ≡ watched_of clock started sin }
 {
     let steady = same(sin, clock.sin);
-    let mark = mark_after(clock, started);
-    let mut after = clock;
-    after.watching = steady & (started | clock.watching);
-    after.watch_mark = mark;
-    after.sin = sin;
-    after
+    Clock {
+        watching: steady & (started | clock.watching),
+        watch_mark: mark_after(clock, started),
+        sin,
+        ..clock
+    }
 }
 
 fn starved_flags(flags: Flags, starved: bool) -> Flags
     ensures { result ≡ starved_flags flags starved }
 {
     if starved {
-        return registers::raise(flags, Flag::TxUvf);
+        registers::raise(flags, Flag::TxUvf)
+    } else {
+        flags
     }
-    flags
 }
 
 fn flags_sent(flags: Flags, sent: Sent) -> Flags
@@ -120,9 +111,10 @@ fn flags_sent(flags: Flags, sent: Sent) -> Flags
 {
     let first = starved_flags(flags, sent.starved);
     if sent.differs {
-        return registers::raise(first, Flag::LineCrc);
+        registers::raise(first, Flag::LineCrc)
+    } else {
+        first
     }
-    first
 }
 
 // Note 13 before note 14.
@@ -130,61 +122,45 @@ fn tick_note(starved: bool, full: bool) -> Note
     ensures { result ≡ tick_note starved full }
 {
     if starved {
-        return Note::TxEmpty;
+        Note::TxEmpty
+    } else if full {
+        Note::RxFull
+    } else {
+        Note::Done
     }
-    if full {
-        return Note::RxFull;
-    }
-    Note::Done
 }
 
 fn control_after(control: Control, taken: Taken) -> Control
     ensures { result ≡ control_ticked control taken }
 {
-    let flags = taken.flags;
-    let mut after = control;
-    after.flags = flags;
+    let after = Control {
+        flags: taken.flags,
+        ..control
+    };
     plan::settled(after, taken.receiving.rx.count, taken.ended)
 }
 
 fn tick_ends(bridge: Bridge, sent: Sent, taken: Taken, sin: bool) -> Did
     ensures { result ≡ tick_ends bridge sent taken sin }
 {
-    let control = control_after(bridge.control, taken);
-    let sending = sent.sending;
-    let tx = sending.tx;
-    let queue = taken.queue;
-    let sender = sending.sender;
-    let receiving = taken.receiving;
-    let frame = bridge.frame;
-    let before = frame.phase;
-    let phase = phase_after(before, sent.starved);
-    let held = frame.held;
-    let clock = watched(bridge.clock, sent.started, sin);
-    let note = tick_note(sent.starved, taken.full);
-    let store = taken.store;
     let after = Bridge {
-        control: control,
+        control: control_after(bridge.control, taken),
         sending: Sending {
-            tx: tx,
-            queue: queue,
-            sender: sender,
+            queue: taken.queue,
+            ..sent.sending
         },
-        receiving: receiving,
+        receiving: taken.receiving,
         frame: Frame {
-            phase: phase,
-            held: held,
-            xmodem: frame.xmodem,
+            phase: phase_after(bridge.frame.phase, sent.starved),
+            ..bridge.frame
         },
-        clock: clock,
+        clock: watched(bridge.clock, sent.started, sin),
     };
     Did {
-        bridge: after,
-        sdo: 0xFFFF,
         sout: sent.sout,
-        note: note,
-        tx: Store::Keep,
-        rx: store,
+        note: tick_note(sent.starved, taken.full),
+        rx: taken.store,
+        ..quietly(after)
     }
 }
 
@@ -193,11 +169,8 @@ pub fn ticked(bridge: Bridge, sin: bool, word: u16) -> Did
     ensures { result ≡ ticked_of bridge sin word }
 {
     let may = next::may_start(bridge.control);
-    let sending = bridge.sending;
-    let sent = sender::tick_sender(sending, may, word);
+    let sent = sender::tick_sender(bridge.sending, may, word);
     let flags = flags_sent(bridge.control.flags, sent);
-    let after = sent.sending;
-    let queue = after.queue;
-    let taken = reader::tick_reader(bridge.receiving, queue, flags, sin);
+    let taken = reader::tick_reader(bridge.receiving, sent.sending.queue, flags, sin);
     tick_ends(bridge, sent, taken, sin)
 }

@@ -9,9 +9,7 @@ use Rattle.base.specs.Truth.{never}
 use Rattle.state.specs.Rings.{tx_size, rx_size}
 use Rattle.state.specs.declared.Bridge.{Bridge}
 use Rattle.rules.specs.Sound.{sound}
-use Rattle.verdict.specs.Verdicts.{is_taken, last_slot, call_up_most, is_ready, has_room, room_verdict, verdict_by}
-use Rattle.verdict.specs.declared.Verdict.{Verdict}
-use Rattle.verdict.specs.declared.Verdict.TheVariants.{Taken}
+use Rattle.verdict.specs.Verdicts.{is_taken, last_slot, call_up_most, is_ready, has_room, room_verdict, verdict_by, Verdict, Taken}
 
 -- none of 1, 2, 32, 33, 34, 35 is due
 pub record Finds (tx rx : ℕ) (b : Bridge) (slot n : ℕ) : Type 0 where

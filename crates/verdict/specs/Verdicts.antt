@@ -1,5 +1,5 @@
 -- Whether a call-up is taken, and why not (02 item 13, "Refusals: 32 .., 33 .., 34 .., 35 .., in that order and after notes 1 and 2"). Assumes nothing.
-use Rattle.std.specs.Prelude.{Bool, true, false, ◌&&◌, ℕ, ◌+◌, ltb, leb, eqb}
+use Rattle.std.specs.Prelude.{Bool, true, false, ◌&&◌, ℕ, ◌+◌, ltb, leb, eqb, Result, Ok, Err, is_ok, ⊤}
 use Rattle.base.specs.Pick.{pick}
 use Rattle.state.specs.Queue.{places, in_use}
 use Rattle.state.specs.Rings.{tx_size, rx_size}
@@ -8,47 +8,48 @@ use Rattle.state.specs.declared.Phase.{Phase}
 use Rattle.state.specs.declared.Phase.TheVariants.{Idle, Collecting, Answering, Discarding}
 use Rattle.rules.specs.Sound.{sound}
 use Rattle.next.specs.Next.{may_start}
-use Rattle.verdict.specs.declared.Verdict.{Verdict}
-use Rattle.verdict.specs.declared.Verdict.TheVariants.{Taken, WrongStores, BrokenRecord, NoSlot, WrongLength, NotReady, NoRoom}
+use Rattle.verdict.specs.declared.Refusal.{Refusal}
+use Rattle.verdict.specs.declared.Refusal.TheVariants.{WrongStores, BrokenRecord, NoSlot, WrongLength, NotReady, NoRoom}
+
+-- what is told of a call-up: it is taken, or its refusal
+abbrev pub Verdict : Type 0
+Verdict = Result ⊤ Refusal
+
+abbrev pub Taken : Verdict
+Taken = Ok tt
 
 -- 02's numbers; 1 and 2 are the bridge's notes (01 Notes); 0 is none
 abbrev pub verdict_number : Verdict → ℕ
-verdict_number Taken = 0
-verdict_number WrongStores = 1
-verdict_number BrokenRecord = 2
-verdict_number NoSlot = 32
-verdict_number WrongLength = 33
-verdict_number NotReady = 34
-verdict_number NoRoom = 35
+verdict_number (Ok tt) = 0
+verdict_number (Err WrongStores) = 1
+verdict_number (Err BrokenRecord) = 2
+verdict_number (Err NoSlot) = 32
+verdict_number (Err WrongLength) = 33
+verdict_number (Err NotReady) = 34
+verdict_number (Err NoRoom) = 35
 
 abbrev pub is_taken : Verdict → Bool
-is_taken Taken = true
-is_taken WrongStores = false
-is_taken BrokenRecord = false
-is_taken NoSlot = false
-is_taken WrongLength = false
-is_taken NotReady = false
-is_taken NoRoom = false
+is_taken v = is_ok v
 
 -- 35: what waiting can mend
 abbrev pub is_no_room : Verdict → Bool
-is_no_room Taken = false
-is_no_room WrongStores = false
-is_no_room BrokenRecord = false
-is_no_room NoSlot = false
-is_no_room WrongLength = false
-is_no_room NotReady = false
-is_no_room NoRoom = true
+is_no_room (Ok tt) = false
+is_no_room (Err WrongStores) = false
+is_no_room (Err BrokenRecord) = false
+is_no_room (Err NoSlot) = false
+is_no_room (Err WrongLength) = false
+is_no_room (Err NotReady) = false
+is_no_room (Err NoRoom) = true
 
 -- 1 and 2: nothing can be done with these stores or this record
 abbrev pub is_broken : Verdict → Bool
-is_broken Taken = false
-is_broken WrongStores = true
-is_broken BrokenRecord = true
-is_broken NoSlot = false
-is_broken WrongLength = false
-is_broken NotReady = false
-is_broken NoRoom = false
+is_broken (Ok tt) = false
+is_broken (Err WrongStores) = true
+is_broken (Err BrokenRecord) = true
+is_broken (Err NoSlot) = false
+is_broken (Err WrongLength) = false
+is_broken (Err NotReady) = false
+is_broken (Err NoRoom) = false
 
 -- "holds forty slots", "32 slot over 39"
 abbrev pub slot_count : ℕ
@@ -78,7 +79,7 @@ has_room b n = leb (in_use b.sending.queue + 2) places && leb (b.sending.tx.coun
 
 -- 34, 35
 unfoldable pub room_verdict : Bridge → ℕ → Verdict
-room_verdict b n = pick (is_ready b) (pick (has_room b n) Taken NoRoom) NotReady
+room_verdict b n = pick (is_ready b) (pick (has_room b n) Taken (Err NoRoom)) (Err NotReady)
 
 -- a call-up for this slot, of n words, on stores of these lengths: 1, 2, 32, 33, 34, 35
 unfoldable pub verdict_by : ℕ → ℕ → Bridge → ℕ → ℕ → Verdict
@@ -86,7 +87,7 @@ verdict_by tx rx b slot n =
     pick (eqb tx tx_size)
     (pick (eqb rx rx_size)
     (pick (sound b)
-    (pick (ltb last_slot slot) NoSlot (pick (eqb n 0) WrongLength (pick (ltb call_up_most n) WrongLength (room_verdict b n))))
-    BrokenRecord)
-    WrongStores)
-    WrongStores
+    (pick (ltb last_slot slot) (Err NoSlot) (pick (eqb n 0) (Err WrongLength) (pick (ltb call_up_most n) (Err WrongLength) (room_verdict b n))))
+    (Err BrokenRecord))
+    (Err WrongStores))
+    (Err WrongStores)

@@ -1,5 +1,6 @@
 -- A list's run by the numbers of its records (`listing`), which the loops are proved against, is what a night's events in one call are defined
 -- to be; and the ways out of the call, as its functions' proofs ask them. Assumes nothing.
+use Rattle.std.specs.Prelude.{Option, None, Some}
 use mathlib.Core.Path.{◌≡◌, refl, sym, ◌∙◌, ap, ap₂}
 use mathlib.Core.Bool.{Bool, true, false, ◌&&◌}
 use mathlib.Core.List.{List, [], ◌∷◌, ◌++◌, append_assoc, append-nil}
@@ -22,8 +23,6 @@ use Rattle.bridge.specs.Runs.{Config, out_of, left_by, next, end_of}
 use Rattle.bridge.proofs.Keeping.{turn_keeps}
 use Rattle.bridge.proofs.Reached.{step_turn}
 use Rattle.script.specs.Script.{value_of, record_of}
-use Rattle.script.specs.declared.Record.{Record}
-use Rattle.script.specs.declared.Record.TheVariants.{Good, Bad}
 use Rattle.listing.specs.Records.{is_good, event_of, record_at, is_event, event_at, all_events}
 use Rattle.listing.specs.Results.{four_bytes, put}
 use Rattle.listing.specs.Run.{Moment, moment, put_answer, list_of}
@@ -68,11 +67,11 @@ module _ (kind high low : ℕ) (rest : List ℕ) where
 abbrev told_by : Bool → List Event → Told
 told_by all es = pick all (events es) wrong
 
-joins : (r : Record) (all : Bool) (es : List Event) → before r (told_by all es) ≡ told_by (is_good r && all) (event_of r ∷ es)
+joins : (r : Option Event) (all : Bool) (es : List Event) → before r (told_by all es) ≡ told_by (is_good r && all) (event_of r ∷ es)
 unfolding before is_good event_of pick
-joins (Good e) true es = refl
-joins (Good e) false es = refl
-joins Bad all es = refl
+joins (Some e) true es = refl
+joins (Some e) false es = refl
+joins None all es = refl
 
 -- a list that is not cut
 told_all : (records : List ℕ) → length records % 3 ≡ 0
@@ -98,10 +97,10 @@ module _ (records : List ℕ) where
   pub wrong_kind : length records % 3 ≡ 0 → all_events records (length records / 3) ≡ false → events_in records ≡ wrong
   wrong_kind h a = told_all records h ∙ sym (pick_false _ _ _ _ a refl)
 
-before_wrong : (r : Record) → before r wrong ≡ wrong
+before_wrong : (r : Option Event) → before r wrong ≡ wrong
 unfolding before
-before_wrong (Good e) = refl
-before_wrong Bad = refl
+before_wrong (Some e) = refl
+before_wrong None = refl
 
 pub wrong_cut : (records : List ℕ) → (length records % 3 ≡ 0 → ⊥) → events_in records ≡ wrong
 unfolding events_in

@@ -1,5 +1,5 @@
 -- A night's events in one call (02 item 6): "The result, state and stores equal the events given one by one." Assumes nothing.
-use Rattle.std.specs.Prelude.{true, List, [], ◌∷◌, ◌++◌, ℕ, ◌*◌, ltb, eqb, length, drop}
+use Rattle.std.specs.Prelude.{true, List, [], ◌∷◌, ◌++◌, ℕ, ◌*◌, ltb, eqb, length, drop, Option, None, Some}
 use Rattle.base.specs.Pick.{pick}
 use Rattle.command.specs.Layouts.{Layouts}
 use Rattle.state.specs.Notes.{note_number}
@@ -8,8 +8,6 @@ use Rattle.rules.specs.Sound.{sound}
 use Rattle.events.specs.declared.Event.{Event}
 use Rattle.bridge.specs.Runs.{Config, out_of, next, end_of}
 use Rattle.script.specs.Script.{value_of, record_of}
-use Rattle.script.specs.declared.Record.{Record}
-use Rattle.script.specs.declared.Record.TheVariants.{Good, Bad}
 use Rattle.listing.specs.Results.{four_bytes}
 use Rattle.whole_night.specs.declared.Listed.{Listed}
 use Rattle.whole_night.specs.declared.Outcome.{Outcome}
@@ -20,10 +18,10 @@ pub data Told : Type 0 where
   events : List Event → Told
   wrong : Told
 
-unfoldable pub before : Record → Told → Told
-before (Good e) (events es) = events (e ∷ es)
-before (Good e) wrong = wrong
-before Bad told = wrong
+unfoldable pub before : Option Event → Told → Told
+before (Some e) (events es) = events (e ∷ es)
+before (Some e) wrong = wrong
+before None told = wrong
 
 -- "the bench program's three-byte records", with no head
 unfoldable pub events_in : List ℕ → Told

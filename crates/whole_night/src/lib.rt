@@ -59,6 +59,7 @@ fn run(
 {
     let mut b = bridge;
     let mut k: usize = 0;
+    // Stays: a pass does one event or a run of them, so no range counts the passes.
     while k < many {
         let part = night_parts::next_part(b, tx, rx, records, results, k, many);
         b = part.bridge;
@@ -74,7 +75,7 @@ fn refused(bridge: Bridge, outcome: Outcome) -> Listed
     Listed {
         state: bridge,
         done: 0,
-        outcome: outcome,
+        outcome,
     }
 }
 

@@ -4,14 +4,19 @@ use mathlib.Core.Bool.{Bool}
 use mathlib.Core.List.{List, [], ◌∷◌}
 use Prim.Native.Nat.{ℕ, ◌+◌, ◌<◌, ◌≤◌}
 use native.Mathlib.Omega.{arith}
-use lib.ListN.{length, take, drop, get_or}
+use lib.ListN.{length, take, drop, get_or, set}
 use lib.Seq.{slice_empty, slice-cons}
 use native.Mathlib.Numerals.{add-one}
 use Rattle.registers.specs.Writing.{write_of}
 use Rattle.registers.specs.declared.Written.{Written}
 use Rattle.registers.specs.declared.Control.{Control}
 use Rattle.registers.specs.declared.Effect.{Effect}
-use Rattle.writes.specs.Writes.{no_effects, with_write, write_all}
+use Rattle.state.specs.declared.Bridge.{Bridge}
+use Rattle.state.specs.declared.Note.TheVariants.{Done}
+use Rattle.state.specs.declared.Phase.{Phase}
+use Rattle.plan.specs.Plan.{plain}
+use Rattle.plan.specs.declared.Plan.{Plan}
+use Rattle.writes.specs.Writes.{held_word, no_effects, with_write, write_all}
 use Rattle.writes.specs.declared.Effects.{Effects}
 
 -- an arm of one write more
@@ -19,6 +24,24 @@ pub to_written : (e : Effects) (w : Written) (k : Effect) (x : Effects) → w.ef
     → x ≡ with_write e w
 unfolding with_write
 to_written e w k x h q = rw h q
+
+-- a word that is held, over the plan that only moves the phase
+pub to_held : (b : Bridge) (phase : Phase) (got w : ℕ) (p : Plan) → p ≡ plain b phase Done
+    → ◌≡◌ {A = Plan}
+    (record {
+      phase = p.phase;
+      held = set b.frame.held got w;
+      control = p.control;
+      store = p.store;
+      deed = p.deed;
+      receive = p.receive;
+      note = p.note;
+      sdo = p.sdo;
+      status = p.status;
+    })
+    (held_word b phase got w)
+unfolding held_word
+to_held b phase got w p h = rw h
 
 -- what is left of the writes is the whole of them
 module _ (busy : Bool) (address count : ℕ) (held : List ℕ) (first : Effects) where

@@ -1,5 +1,5 @@
 -- Register writes by frames (01 Frames, "REG_WR writes as words come, REG_WR_CRC at the CRC word, ascending"; note 10). Assumes nothing.
-use Rattle.std.specs.Prelude.{Bool, true, false, not, ◌||◌, List, [], ◌∷◌, ℕ, ◌+◌, set}
+use Rattle.std.specs.Prelude.{Bool, true, false, not, ◌||◌, List, [], ◌∷◌, ℕ, ◌+◌, set, None}
 use Rattle.base.specs.Pick.{pick}
 use Rattle.line.specs.declared.Ear.{Ear}
 use Rattle.line.specs.declared.Ear.TheVariants.{Quiet, Group, Lost}
@@ -13,7 +13,6 @@ use Rattle.state.specs.declared.Bridge.{Bridge}
 use Rattle.state.specs.declared.Deed.TheVariants.{Leave, ClearAll}
 use Rattle.state.specs.declared.Note.TheVariants.{Done, LineBusy}
 use Rattle.state.specs.declared.Phase.{Phase}
-use Rattle.state.specs.declared.Store.TheVariants.{Keep}
 use Rattle.plan.specs.Plan.{no_answer}
 use Rattle.writes.specs.declared.Effects.{Effects}
 use Rattle.plan.specs.declared.Plan.{Plan}
@@ -69,7 +68,7 @@ effected b p e status = record {
   phase = p;
   held = b.frame.held;
   control = e.control;
-  store = Keep;
+  store = None;
   deed = pick e.clears_tx ClearAll Leave;
   receive = pick e.clears_rx EmptyRx LeaveRx;
   note = pick e.refused LineBusy Done;
@@ -83,7 +82,7 @@ held_word b p got w = record {
   phase = p;
   held = set b.frame.held got w;
   control = b.control;
-  store = Keep;
+  store = None;
   deed = Leave;
   receive = LeaveRx;
   note = Done;

@@ -10,9 +10,9 @@ ghost use Rattle.state.specs.declared.Note.TheVariants.{Done, LineBusy};
 ghost use Rattle.plan.specs.declared.Receive.TheVariants.{LeaveRx, EmptyRx};
 
 use line::Ear;
-use plan::{NO_ANSWER, Plan, Receive};
+use plan::{Plan, Receive, plain};
 use registers::{Control, Effect, Written};
-use state::{Bridge, Deed, Note, Phase, Store};
+use state::{Bridge, Deed, Note, Phase};
 
 // What the writes of a frame did, all together.
 #[derive(Clone, Copy)]
@@ -26,52 +26,40 @@ pub struct Effects {
 fn is_quiet(ear: Ear) -> bool
     ensures { result ≡ is_quiet ear }
 {
-    match ear {
-        Ear::Quiet => true,
-        Ear::Group {
-            number: _,
-            value: _,
-            bits: _,
-            ones: _,
-        } => false,
-        Ear::Lost { ones: _ } => false,
-    }
+    matches!(ear, Ear::Quiet)
 }
 
 // Sender or reader is busy (note 10).
 pub fn busy(bridge: Bridge) -> bool
     ensures { result ≡ busy_of bridge }
 {
-    let sender = bridge.sending.sender;
-    let reader = bridge.receiving.reader;
-    let ear = reader.ear;
-    let sent = deeds::is_idle(sender);
-    let read = is_quiet(ear);
-    !sent | !read
+    let sending = !deeds::is_idle(bridge.sending.sender);
+    let reading = !is_quiet(bridge.receiving.reader.ear);
+    sending | reading
 }
 
 // One write more.
 fn with_write(effects: Effects, written: Written) -> Effects
     ensures { result ≡ with_write effects written }
 {
-    let effect = written.effect;
-    let control = written.control;
-    let mut after = effects;
-    after.control = control;
-    match effect {
+    let after = Effects {
+        control: written.control,
+        ..effects
+    };
+    match written.effect {
         Effect::Nothing => after,
-        Effect::TransmitClear => {
-            after.clears_tx = true;
-            after
-        }
-        Effect::ReceiveClear => {
-            after.clears_rx = true;
-            after
-        }
-        Effect::Refused => {
-            after.refused = true;
-            after
-        }
+        Effect::TransmitClear => Effects {
+            clears_tx: true,
+            ..after
+        },
+        Effect::ReceiveClear => Effects {
+            clears_rx: true,
+            ..after
+        },
+        Effect::Refused => Effects {
+            refused: true,
+            ..after
+        },
     }
 }
 
@@ -79,7 +67,7 @@ fn no_effects(control: Control) -> Effects
     ensures { result ≡ no_effects control }
 {
     Effects {
-        control: control,
+        control,
         clears_tx: false,
         clears_rx: false,
         refused: false,
@@ -92,12 +80,9 @@ pub fn write_all(control: Control, busy: bool, address: u16, held: [u16; 12], co
     ensures { result ≡ write_all (no_effects control) busy address (take count held) }
 {
     let mut effects = no_effects(control);
-    let mut i: u16 = 0;
-    while i < count {
-        let word = held[i as usize];
-        let written = writing::write(effects.control, busy, address + i, word);
+    for i in 0..count {
+        let written = writing::write(effects.control, busy, address + i, held[i as usize]);
         effects = with_write(effects, written);
-        i = i + 1;
     }
     effects
 }
@@ -105,46 +90,35 @@ pub fn write_all(control: Control, busy: bool, address: u16, held: [u16; 12], co
 fn deed_of(clears: bool) -> Deed
     ensures { result ≡ pick clears ClearAll Leave }
 {
-    if clears {
-        return Deed::ClearAll;
-    }
-    Deed::Leave
+    if clears { Deed::ClearAll } else { Deed::Leave }
 }
 
 fn receive_of(clears: bool) -> Receive
     ensures { result ≡ pick clears EmptyRx LeaveRx }
 {
     if clears {
-        return Receive::EmptyRx;
+        Receive::EmptyRx
+    } else {
+        Receive::LeaveRx
     }
-    Receive::LeaveRx
 }
 
 fn note_of(refused: bool) -> Note
     ensures { result ≡ pick refused LineBusy Done }
 {
-    if refused {
-        return Note::LineBusy;
-    }
-    Note::Done
+    if refused { Note::LineBusy } else { Note::Done }
 }
 
 // What writes do beyond the registers.
 pub fn effected(bridge: Bridge, phase: Phase, effects: Effects, status: bool) -> Plan
     ensures { result ≡ effected_of bridge phase effects status }
 {
-    let held = bridge.frame.held;
-    let control = effects.control;
     Plan {
-        phase: phase,
-        held: held,
-        control: control,
-        store: Store::Keep,
+        control: effects.control,
         deed: deed_of(effects.clears_tx),
         receive: receive_of(effects.clears_rx),
-        note: note_of(effects.refused),
-        sdo: NO_ANSWER,
-        status: status,
+        status,
+        ..plain(bridge, phase, note_of(effects.refused))
     }
 }
 
@@ -155,17 +129,9 @@ fn held_word(bridge: Bridge, phase: Phase, got: u16, word: u16) -> Plan
 {
     let mut held = bridge.frame.held;
     held[got as usize] = word;
-    let control = bridge.control;
     Plan {
-        phase: phase,
-        held: held,
-        control: control,
-        store: Store::Keep,
-        deed: Deed::Leave,
-        receive: Receive::LeaveRx,
-        note: Note::Done,
-        sdo: NO_ANSWER,
-        status: false,
+        held,
+        ..plain(bridge, phase, Note::Done)
     }
 }
 
@@ -184,8 +150,7 @@ pub fn register_word(
     if crc {
         return held_word(bridge, phase, got, word);
     }
-    let control = bridge.control;
-    let written = writing::write(control, busy(bridge), address + got, word);
-    let effects = with_write(no_effects(control), written);
+    let written = writing::write(bridge.control, busy(bridge), address + got, word);
+    let effects = with_write(no_effects(bridge.control), written);
     effected(bridge, phase, effects, false)
 }

@@ -5,14 +5,16 @@ use Prim.Native.Nat.{ℕ, suc, ◌-◌, ◌≤◌}
 use native.Mathlib.Omega.{arith}
 use native.Mathlib.Decide.{dec_le}
 use Rattle.base.specs.Arms.{past}
-use Rattle.base.specs.Bits.{bit, flag}
-use Rattle.base.specs.Pick.{pick, pick_true, pick_false, pick_told}
+use Rattle.base.specs.Bits.{bit}
+use Rattle.base.specs.Pick.{pick, pick_true, pick_false, pick_told, pick_denied}
 use Rattle.registers.specs.declared.Control.{Control}
 use Rattle.registers.specs.declared.Flags.{Flags}
+use Rattle.registers.specs.declared.Regs.{Regs}
+use Rattle.registers.specs.declared.Effect.{Effect}
 use Rattle.registers.specs.declared.Written.{Written}
 use Rattle.registers.specs.declared.Effect.TheVariants.{Nothing}
 use Rattle.registers.specs.Registers.{cleared}
-use Rattle.registers.specs.Writing.{written, with_flags, write_status, write_masked}
+use Rattle.registers.specs.Writing.{written, with_flags, with_regs, write_status, write_masked}
 
 -- a choice by two answers
 module _ {A : Type 0} (s t p q : Bool) (r x y : A) (e : s ≡ p) (f : t ≡ q) where
@@ -21,6 +23,14 @@ module _ {A : Type 0} (s t p q : Bool) (r x y : A) (e : s ≡ p) (f : t ≡ q) w
 
   pub pick_not_both : (s && t) ≡ false → r ≡ y → r ≡ pick (p && q) x y
   pick_not_both h k = pick_false _ r x y (sym (ap₂ (λ (a b : Bool). a && b) e f) ∙ h) k
+
+-- what bit 15 of a level asks, beside the registers
+module _ (c : Control) (r : Regs) (v : ℕ) (b : Bool) (x : Effect) (h : b ≡ bit 15 v) where
+  pub to_asked : b ≡ true → written (with_regs c r) x ≡ written (with_regs c r) (pick (bit 15 v) x Nothing)
+  to_asked e = ap (λ (z : Effect). written (with_regs c r) z) (pick_told b (bit 15 v) x x Nothing h e refl)
+
+  pub to_unasked : b ≡ false → written (with_regs c r) Nothing ≡ written (with_regs c r) (pick (bit 15 v) x Nothing)
+  to_unasked e = ap (λ (z : Effect). written (with_regs c r) z) (pick_denied b (bit 15 v) Nothing x Nothing h e refl)
 
 pub to_cleared : (c : Control) (v : ℕ) (b : Bool) (f : Flags) (x : Written) → b ≡ bit 15 v → b ≡ true → f ≡ cleared c.flags
     → x ≡ written (with_flags c f) Nothing → x ≡ write_status c v

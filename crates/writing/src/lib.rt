@@ -7,17 +7,20 @@ ghost use Rattle.base.specs.Bits.{bit as bit_of};
 ghost use Rattle.base.specs.Pick.{pick};
 ghost use Rattle.registers.specs.Writing.{written, with_regs, with_spictrl, with_diagmask, with_mode, write_ccsictrl, write_txfflvl, write_rxfflvl, mode_after, write_status, write_masked, write_of};
 
-use registers::{Control, Effect, Mode, Written, bit, cleared_flags, is_failsafe, is_normal};
+use registers::{
+    Control, Effect, Mode, Regs, Written, bit, cleared_flags, is_failsafe, is_normal, row,
+};
 
 fn plain(control: Control) -> Written
     ensures { result ≡ written control Effect.Nothing }
 {
     Written {
-        control: control,
+        control,
         effect: Effect::Nothing,
     }
 }
 
+// Stays, as do the writes of CCSICTRL, DIAGMASK and both levels: they differ in the field alone, and a field's name is no parameter.
 fn write_spictrl(control: Control, value: u16) -> Written
     ensures { result ≡ written (with_regs control (with_spictrl control.regs value)) Effect.Nothing }
 {
@@ -42,41 +45,39 @@ fn write_ccsictrl(control: Control, busy: bool, value: u16) -> Written
     plain(after)
 }
 
-// What bit 15 of a level asks.
-fn asked(value: u16, clear: Effect) -> Effect
-    ensures { result ≡ pick (bit_of 15 value) clear Effect.Nothing }
+// These registers, and what bit 15 of a level asks.
+fn write_level(control: Control, regs: Regs, value: u16, clear: Effect) -> Written
+    ensures { result ≡ written (with_regs control regs) (pick (bit_of 15 value) clear Effect.Nothing) }
 {
-    if bit(value, 15) {
-        return clear;
+    Written {
+        control: Control { regs, ..control },
+        effect: if bit(value, 15) {
+            clear
+        } else {
+            Effect::Nothing
+        },
     }
-    Effect::Nothing
 }
 
 // The level is written also where bit 15 is 1, which reads 0.
 fn write_txfflvl(control: Control, value: u16) -> Written
     ensures { result ≡ write_txfflvl control value }
 {
-    let level = value % 0x8000;
-    let mut after = control;
-    after.regs.txfflvl = level;
-    let effect = asked(value, Effect::TransmitClear);
-    Written {
-        control: after,
-        effect: effect,
-    }
+    let regs = Regs {
+        txfflvl: value % 0x8000,
+        ..control.regs
+    };
+    write_level(control, regs, value, Effect::TransmitClear)
 }
 
 fn write_rxfflvl(control: Control, value: u16) -> Written
     ensures { result ≡ write_rxfflvl control value }
 {
-    let level = value % 0x8000;
-    let mut after = control;
-    after.regs.rxfflvl = level;
-    let effect = asked(value, Effect::ReceiveClear);
-    Written {
-        control: after,
-        effect: effect,
-    }
+    let regs = Regs {
+        rxfflvl: value % 0x8000,
+        ..control.regs
+    };
+    write_level(control, regs, value, Effect::ReceiveClear)
 }
 
 // Both are judged on the state before the write.
@@ -97,15 +98,9 @@ fn mode_after(mode: Mode, value: u16) -> Mode
 fn write_devctrl(control: Control, value: u16) -> Written
     ensures { result ≡ written (with_mode control (mode_after control.mode value)) Effect.Nothing }
 {
-    let before = control.mode;
-    let mode = mode_after(before, value);
-    let flags = control.flags;
-    let regs = control.regs;
     plain(Control {
-        mode: mode,
-        drdy: control.drdy,
-        flags: flags,
-        regs: regs,
+        mode: mode_after(control.mode, value),
+        ..control
     })
 }
 
@@ -121,10 +116,10 @@ fn write_status(control: Control, value: u16) -> Written
     ensures { result ≡ write_status control value }
 {
     if bit(value, 15) {
-        let flags = cleared_flags(control.flags);
-        let mut after = control;
-        after.flags = flags;
-        return plain(after);
+        return plain(Control {
+            flags: cleared_flags(control.flags),
+            ..control
+        });
     }
     plain(control)
 }
@@ -147,8 +142,6 @@ fn write_masked(control: Control, busy: bool, address: u16, value: u16) -> Writt
 pub fn write(control: Control, busy: bool, address: u16, value: u16) -> Written
     ensures { result ≡ write_of control busy address value }
 {
-    let regs = control.regs;
-    let layout = regs.layout;
-    let reached = value & registers::row(layout, address).writable;
+    let reached = value & row(control.regs.layout, address).writable;
     write_masked(control, busy, address, reached)
 }

@@ -1,0 +1,9 @@
+use Rattle.std.proofs.Common.{rules}
+use Rattle.queue.proofs.Laws.{no_youngest, is_youngest, to_none_speaks, to_speaking}
+use Rattle.queue.proofs.is_speaking.Goals as goal
+
+pub returns-in_default : goal.returns-in_default
+returns-in_default c = search (rules, to_none_speaks, no_youngest)
+
+pub returns : goal.returns
+returns c = search (rules, to_speaking, is_youngest)

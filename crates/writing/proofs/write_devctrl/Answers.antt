@@ -1,0 +1,4 @@
+use Rattle.writing.proofs.write_devctrl.Goals as goal
+
+pub returns : goal.returns
+returns c = cc
