@@ -1,5 +1,5 @@
 -- Laws of a run of ticks inside a piece, as the functions' proofs ask them. Assumes nothing.
-use Rattle.std.specs.Prelude.{Option, None, Some}
+use Rattle.std.specs.Prelude.{Result, Ok, Err}
 use mathlib.Core.Path.{◌≡◌, refl, sym, ◌∙◌, ap, subst}
 use mathlib.Core.Bool.{Bool, true, false}
 use mathlib.Core.List.{List}
@@ -93,8 +93,8 @@ module _ (budget : ℕ) (b : Bridge) (from ticks : ℕ) (h : Hot) (v : Hush budg
       gone = gone_within false none h.gone b.sending.sender q;
     }
 
-  pub hush_more : (n : ℕ) → n ≡ reach b.sending.sender → (q : Option Hot) (g : Hot)
-      → q ≡ pick (quiet_by h n false true) (Some (next_hot h false true)) None → q ≡ Some g → Hush budget b from (ticks + 1) g
+  pub hush_more : (n : ℕ) → n ≡ reach b.sending.sender → (q : Result Hot Hot) (g : Hot)
+      → q ≡ pick (quiet_by h n false true) (Ok (next_hot h false true)) (Err (next_hot h false true)) → q ≡ Ok g → Hush budget b from (ticks + 1) g
   hush_more n f q g e p =
       let w = was_quiet (quiet_by h n false true) (next_hot h false true) g (sym e ∙ p) in
       rw w.1 (more (subst (λ (m : ℕ). quiet_by h m false true ≡ true) f w.0))

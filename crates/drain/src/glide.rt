@@ -23,8 +23,8 @@ pub fn run(bridge: Bridge, from: u32, budget: u32) -> Glide
     let mut hot = lull::hot_of(bridge);
     for ticks in from..budget {
         match lull::tick(hot, reach, false, true) {
-            Some(after) => hot = after,
-            None => return Glide { ticks, hot },
+            Ok(after) => hot = after,
+            Err(_) => return Glide { ticks, hot },
         }
     }
     Glide { ticks: budget, hot }

@@ -52,14 +52,18 @@ pub enum Told {
 }
 
 // A frame's words at the front of a buffer that has room for them.
+// Stays: a loop, and no `copy_from_slice`, which the archive for C would take from a C library (`memmove`); include/icelichen_frames.h says that it calls nothing.
 fn fill(start: u16, word: u16, words: &[u16], buffer: &mut [u16])
     requires { length words.now + beside ≤ length buffer.old }
     ensures { buffer.new ≡ over (checked start (word ∷ words.now)) buffer.old }
 {
-    let n = words.len();
     buffer[0] = word;
-    buffer[1..n + 1].copy_from_slice(words);
-    buffer[n + 1] = crc16::crc_from(crc16::crc_word(start, word), words);
+    let mut crc = crc16::crc_word(start, word);
+    for i in 0..words.len() {
+        buffer[i + 1] = words[i];
+        crc = crc16::crc_word(crc, words[i]);
+    }
+    buffer[words.len() + 1] = crc;
 }
 
 // The frame of an order with these data words, into a lent buffer, and how many words it is. `start` is the CRC's (`command::crc_start`). 4,096 words

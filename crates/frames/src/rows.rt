@@ -161,7 +161,8 @@ pub fn due(order: Order) -> Option<Due>
     fields_within(order).then_some(answer_of(order))
 }
 
-// The order of a command's number and the fields of its row; a field that the row does not have is 0.
+// The order of a command's number and the fields of its row; a field that the row does not have is 0. Inlined: who calls it does nothing else.
+#[inline(always)]
 pub fn order_of(number: u16, ends: u16, address: u16, count: u16) -> Option<Order>
     ensures { result ≡ order_of number ends address count }
 {

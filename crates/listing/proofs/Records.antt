@@ -1,6 +1,6 @@
 -- Laws of a list's records and of the four bytes, as the functions' proofs ask them. Assumes nothing.
 use Rattle.std.specs.Prelude.{Option, None, Some}
-use Rattle.std.specs.Option.{is_some}
+use Rattle.std.specs.Option.{is_some, unwrap_or}
 use mir.Val.{bool_byte}
 use mathlib.Core.Path.{◌≡◌, refl, sym, ◌∙◌, ap, subst}
 use mathlib.Core.Bool.{Bool, true, false, ◌&&◌}
@@ -28,6 +28,12 @@ pub to_good : (r g : Option Event) (x : Bool) → r ≡ g → x ≡ is_some r �
 unfolding is_good
 to_good (Some e) g x h i = rw (← h) i
 to_good None g x h i = rw (← h) i
+
+-- and the event is what was read
+pub to_event : (r g : Option Event) (x : Event) → r ≡ g → x ≡ unwrap_or r Release → x ≡ event_of g
+unfolding event_of
+to_event (Some e) g x h i = rw (← h) i
+to_event None g x h i = rw (← h) i
 
 -- what each arm gives, of a record that is an event
 abbrev Gives : Event → Option Event → Type 0

@@ -4,7 +4,7 @@
 
 ghost use Rattle.std.specs.Prelude.{◌≡◌, ◌+◌, ◌*◌, ◌≤◌, length};
 ghost use Rattle.state.specs.Notes.{note_number};
-ghost use Rattle.listing.specs.Records.{record_at, is_event, all_events};
+ghost use Rattle.listing.specs.Records.{record_at, is_event, event_at, all_events};
 ghost use Rattle.listing.specs.Results.{put as put_of};
 
 use events::Event;
@@ -24,6 +24,14 @@ pub fn is_event(records: &[u8], k: usize) -> bool
     ensures { result ≡ is_event records.now k }
 {
     record_at(records, k).is_some()
+}
+
+// The event that record k is; a release of chip select where it is none.
+pub fn event_at(records: &[u8], k: usize) -> Event
+    requires { k * 3 + 3 ≤ length records.now }
+    ensures { result ≡ event_at records.now k }
+{
+    record_at(records, k).unwrap_or(Event::Release)
 }
 
 // The first so many records are events.

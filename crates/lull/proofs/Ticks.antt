@@ -1,6 +1,5 @@
 -- A quiet tick, the first of a run or a later one: `turn` gives the record that the run lays down. Assumes nothing.
-use Rattle.std.specs.Prelude.{None, Some}
-use Rattle.std.specs.Bool.{then_some}
+use Rattle.std.specs.Prelude.{None, Ok, Err}
 use mathlib.Core.Path.{◌≡◌, refl, sym, ◌∙◌, ap, subst}
 use mathlib.Core.Bool.{Bool, true, false, ◌&&◌, ◌||◌}
 use mathlib.Core.List.{List}
@@ -36,13 +35,8 @@ use Rattle.quick.proofs.Between.{plain, moved, unsent, unfinished, sent_none, ti
 use Rattle.lull.specs.Lull.{hot_of, rests_in, reach, gone_on, quiet_by, quiet_bit, laid_sender, laid, laid_by, quiet_answer}
 use Rattle.lull.specs.declared.Hot.{Hot}
 
--- what a quiet tick leaves, by its test
-pub to_quiet : (t : Bool) (h : Hot) → then_some t h ≡ pick t (Some h) None
-unfolding pick
-to_quiet true h = refl
-to_quiet false h = refl
-
-pub was_quiet : (t : Bool) (h g : Hot) → pick t (Some h) None ≡ Some g → (t ≡ true) × (g ≡ h)
+-- a tick that was answered with Ok was quiet
+pub was_quiet : (t : Bool) (h g : Hot) → pick t (Ok h) (Err h) ≡ Ok g → (t ≡ true) × (g ≡ h)
 unfolding pick
 was_quiet true h g e = (refl, cc)
 was_quiet false h g e = cc

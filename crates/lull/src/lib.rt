@@ -3,7 +3,7 @@
 
 #![tactic(auto)]
 
-ghost use Rattle.std.specs.Prelude.{◌≡◌, ◌≤◌, None, Some};
+ghost use Rattle.std.specs.Prelude.{◌≡◌, ◌≤◌, Err, Ok};
 ghost use Rattle.base.specs.Pick.{pick};
 ghost use Rattle.state.specs.Facts.{HostFit};
 ghost use Rattle.lull.specs.Lull.{hot_of, rests_in, reach as reach_of, gone_on, quiet_by, next_hot, quiet_bit, laid_sender, laid as laid_of};
@@ -63,21 +63,23 @@ fn gone_on(gone: u16, rests: bool) -> u16
     gone + 1
 }
 
-// What a tick within the reach leaves, or one at rest. None: the tick is not quiet.
-pub fn tick(hot: Hot, reach: u16, rests: bool, sin: bool) -> Option<Hot>
+// What a tick moves. Ok: it is within the reach, or at rest, and this is what it leaves. Err: the tick is not quiet.
+#[tactic(auto, using(base::specs::Pick::picks))]
+pub fn tick(hot: Hot, reach: u16, rests: bool, sin: bool) -> Result<Hot, Hot>
     requires { hot.gone ≤ 18 }
-    ensures { result ≡ pick (quiet_by hot reach rests sin) (Some (next_hot hot rests sin)) None }
+    ensures { result ≡ pick (quiet_by hot reach rests sin) (Ok (next_hot hot rests sin)) (Err (next_hot hot rests sin)) }
 {
     let heard = line::hear(hot.ear, sin);
     let inside = hot.gone < reach;
     let quiet = quick::is_nothing(heard.found) & (rests | inside);
     let steady = ticks::same(sin, hot.sin);
-    quiet.then_some(Hot {
+    let after = Hot {
         ear: heard.ear,
         gone: gone_on(hot.gone, rests),
         watching: steady & hot.watching,
         sin,
-    })
+    };
+    if quiet { Ok(after) } else { Err(after) }
 }
 
 // The bit that such a tick sends.

@@ -1,5 +1,5 @@
 -- Laws of a run of quiet ticks, as the functions' proofs ask them. Assumes nothing.
-use Rattle.std.specs.Prelude.{Option, None, Some}
+use Rattle.std.specs.Prelude.{Result, Ok, Err}
 use mathlib.Core.Path.{◌≡◌, refl, sym, ◌∙◌, ap, subst}
 use mathlib.Core.Bool.{Bool, true, false}
 use mathlib.Core.List.{List}
@@ -85,8 +85,8 @@ module _ (records : List ℕ) (many : ℕ) (b : Bridge) (from : ℕ) (s₀ : Lis
       gone = gone_within still (is_nothing (hear h.ear sin).found) h.gone b.sending.sender q;
     }
 
-  pub hush_more : (to : ℕ) → to ≡ reach b.sending.sender → (q : Option Hot) (g : Hot) (x : Bool) (u : List ℕ)
-      → q ≡ pick (quiet_by h to still sin) (Some (next_hot h still sin)) None → q ≡ Some g
+  pub hush_more : (to : ℕ) → to ≡ reach b.sending.sender → (q : Result Hot Hot) (g : Hot) (x : Bool) (u : List ℕ)
+      → q ≡ pick (quiet_by h to still sin) (Ok (next_hot h still sin)) (Err (next_hot h still sin)) → q ≡ Ok g
       → x ≡ quiet_bit h b.sending.sender.piece still → u ≡ put s k 0 no_answer x → Hush records many b from s₀ (k + 1) still g u
   hush_more to t q g x u e p o w =
       let y = was_quiet (quiet_by h to still sin) (next_hot h still sin) g (sym e ∙ p) in

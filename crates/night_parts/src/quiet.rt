@@ -28,7 +28,7 @@ pub fn run(bridge: Bridge, records: &[u8], results: &mut [u8], from: usize, many
             return Ran { k, rests, hot };
         }
         let sin = bytes::bit_at(records, k);
-        let Some(after) = lull::tick(hot, reach, rests, sin) else {
+        let Ok(after) = lull::tick(hot, reach, rests, sin) else {
             return Ran { k, rests, hot };
         };
         let sout = lull::bit(hot, bridge.sending.sender.piece, rests);

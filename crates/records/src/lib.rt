@@ -3,7 +3,7 @@
 
 #![tactic(auto)]
 
-ghost use Rattle.std.specs.Prelude.{◌+◌, ◌<◌, ◌≤◌, length};
+ghost use Rattle.std.specs.Prelude.{◌≡◌, ◌+◌, ◌<◌, ◌≤◌, get_or, length};
 
 use command::Command;
 use layout::Layout;
@@ -36,6 +36,16 @@ struct Parts {
     y: bool,
 }
 
+// The number of a column; 0 past the last.
+pub fn at(f: &Fields, column: usize) -> u16
+    ensures { result ≡ get_or f.now column 0 }
+{
+    if column < COLUMNS {
+        return f[column];
+    }
+    0
+}
+
 fn on(f: &Fields, column: usize) -> bool
     requires { column < 144 }
 {
@@ -46,7 +56,19 @@ fn on(f: &Fields, column: usize) -> bool
 fn put(f: &mut Fields, from: usize, numbers: &[u16])
     requires { from + length numbers.now ≤ 144 }
 {
-    f[from..from + numbers.len()].copy_from_slice(numbers);
+    for (i, &number) in numbers.iter().enumerate() {
+        f[from + i] = number;
+    }
+}
+
+// Marks from a column on, as 1 and 0.
+// Stays: a loop beside `put`'s, since `fields` takes four times the instructions with `bits.map(u16::from)`.
+fn put_bits(f: &mut Fields, from: usize, bits: &[bool])
+    requires { from + length bits.now ≤ 144 }
+{
+    for (i, &bit) in bits.iter().enumerate() {
+        f[from + i] = u16::from(bit);
+    }
 }
 
 impl Parts {
@@ -473,7 +495,7 @@ fn put_place(f: &mut Fields, from: usize, p: Place)
 {
     put(f, from, &[p.words, p.ends, p.crc_sent, p.crc_read]);
     let bits = [p.store, p.compare, p.damaged, p.sent, p.read];
-    put(f, from + 4, &bits.map(u16::from));
+    put_bits(f, from + 4, &bits);
 }
 
 fn put_control(f: &mut Fields, c: Control) {
@@ -505,7 +527,7 @@ fn put_control(f: &mut Fields, c: Control) {
         g.rxffuvf,
     ];
     put(f, 0, &numbers);
-    put(f, 6, &bits.map(u16::from));
+    put_bits(f, 6, &bits);
     f[139] = g.bad_word;
     f[140] = r.layout as u16;
 }
@@ -528,7 +550,7 @@ fn put_counts(f: &mut Fields, s: Sending, r: Receiving, c: Clock) {
     let g = r.reader;
     let bits = [c.watching, c.sin, g.belongs, g.storing, g.stored];
     put(f, 21, &numbers);
-    put(f, 33, &bits.map(u16::from));
+    put_bits(f, 33, &bits);
 }
 
 fn put_frame(f: &mut Fields, frame: Frame) {

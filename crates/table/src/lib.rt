@@ -8,7 +8,7 @@ use records::Fields;
 
 // Longer than the table, and zeros behind it.
 // Stays: places in one text, and no slices of its lines, since a word that has no mark before its line's end goes on behind it, and behind the last byte with the first.
-#[derive(Drop)]
+#[derive(Clone, Copy)]
 pub struct Text {
     pub bytes: [u8; 65536],
 }

@@ -3,7 +3,7 @@
 #![tactic(auto)]
 
 ghost use Rattle.std.specs.Prelude.{◌≡◌, ◌≤◌};
-ghost use Rattle.verdict.specs.Verdicts.{verdict_number, is_no_room, is_broken, is_idle, is_ready, has_room, room_verdict, verdict_by};
+ghost use Rattle.verdict.specs.Verdicts.{verdict_number, is_taken, is_no_room, is_broken, is_idle, is_ready, has_room, room_verdict, verdict_by};
 
 use state::{Bridge, Phase};
 
@@ -31,6 +31,13 @@ pub fn number(verdict: Result<(), Refusal>) -> u16
         Err(Refusal::NotReady) => 34,
         Err(Refusal::NoRoom) => 35,
     }
+}
+
+// No refusal.
+pub fn is_taken(verdict: Result<(), Refusal>) -> bool
+    ensures { result ≡ is_taken verdict }
+{
+    verdict.is_ok()
 }
 
 // What waiting can mend.

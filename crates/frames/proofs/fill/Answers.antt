@@ -1,11 +1,13 @@
--- The frame stands at the front of the buffer.
-use Rattle.std.proofs.Common.{◌∙◌, ap, ℕ}
-use Rattle.crc16.specs.Crc.{crc_from}
-use Rattle.frames.proofs.Writing.{fills}
+-- What is left of `frames::fill`: each turn puts one data word behind the command word.
+use Rattle.std.proofs.Common.{rules}
+use Rattle.frames.proofs.Writing.{fill_begins, fill_again, fill_ends}
 use Rattle.frames.proofs.fill.Goals as goal
 
+pub loop-i-init : goal.loop-i-init
+loop-i-init c = search (rules, fill_begins)
+
+pub loop-i-preserved : goal.loop-i-preserved
+loop-i-preserved c = search (rules, fill_again)
+
 pub returns : goal.returns
-unfolding crc_from
-returns c =
-    fills c.args.start c.args.word c.crc_from.result c.args.words.now c.copy_from_slice.new.self c.args.buffer.now c.requires c.copy_from_slice.ensures.after
-    (c.crc_from.ensures ∙ ap (λ (sum : ℕ). crc_from sum c.args.words.now) c.crc_word.ensures)
+returns c = search (rules, fill_ends)
